@@ -1,0 +1,5 @@
+pub mod Costs
+pub mod Labels
+pub mod Lists
+pub mod Refusals
+pub mod Task
