@@ -1,8 +1,8 @@
 // Estimates of the cost that is still to come.
 ghost use mathlib.Core.Path.{_≡_};
-ghost use Prim.Native.Nat.{ℕ, _^_, _≤_};
+ghost use Prim.Native.Nat.{ℕ};
 ghost use Rattle.std.specs.declared.option.Option.{Option};
-ghost use Rattle.std.specs.declared.option.Option.the-variants.{Some};
+ghost use Rattle.planning.specs.Estimates.{Bounded};
 use crate::cost::CostAlgebra;
 
 // `None` marks a dead end, from which no goal can be reached.
@@ -16,5 +16,5 @@ pub trait Heuristic {
 
     // Does nothing: its promise is the law that every estimate is of size at most 2 ^ 40.
     fn bounded(&self)
-        ensures { λ _. ⌜ ((state : ℕ) (x : Self·Cost) → estimated (now (self .entry)) state ≡ Some x → Cost·CostAlgebra .algebra .size x ≤ 2 ^ 40) ⌝ };
+        ensures { λ _. ⌜ Bounded (Cost·CostAlgebra .algebra) (estimated (now (self .entry))) ⌝ };
 }
