@@ -1,0 +1,5 @@
+pub mod Bytewise
+pub mod Rows
+pub mod Framing
+pub mod Opening
+pub mod StripsSheets

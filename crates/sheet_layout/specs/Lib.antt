@@ -1,0 +1,4 @@
+pub mod Checks
+pub mod Frame
+pub mod Numbers
+pub mod Strips
