@@ -169,3 +169,10 @@ module _ {C : Type 0} (k : KindOf) (layout : C → List ℕ) (Valid : C → Type
       let one = record-complete p x (joined (recordBytes layout) xs) (v .0) e in
       let more = records-complete xs (recordEnd bs p) (one .3) (v .1) (one .2) in
       (record-pass k bs p (recordsChecks k bs (length xs) (recordEnd bs p)) (one .0) ∙ more .0, (λ i. one .1 i ∷ more .1 i))
+
+-- a walk over n records after i of them: one record more, or the end
+pub records-on : (k : KindOf) (bs : List ℕ) (n i p : ℕ) → i < n → recordsChecks k bs (n - i) p ≡ recordChecks k bs p ++ recordsChecks k bs (n - (i + 1)) (recordEnd bs p)
+records-on k bs n i p h = ap (λ m. recordsChecks k bs m p) (let e : n - i ≡ suc (n - (i + 1)) = omega arith in e)
+
+pub actions-on : {C : Type 0} (k : KindOf) (read : List ℕ → ℕ → C) (bs : List ℕ) (n i p : ℕ) → i < n → actionsFrom k read bs (n - i) p ≡ actionAt k read bs p ∷ actionsFrom k read bs (n - (i + 1)) (recordEnd bs p)
+actions-on k read bs n i p h = ap (λ m. actionsFrom k read bs m p) (let e : n - i ≡ suc (n - (i + 1)) = omega arith in e)

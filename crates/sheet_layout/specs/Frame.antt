@@ -87,5 +87,5 @@ openingChecks k bs =
     ∷ record { passes = eqb (byteAt bs 5) (k .code); refusal = Kind }
     ∷ []
 
-abbrev pub actionsCheck : List ℕ → Check
-actionsCheck bs = record { passes = leb 1 (num16 bs 7) && leb (num16 bs 7) 512; refusal = Count 7 }
+abbrev pub actionsCheck : ℕ → Check
+actionsCheck actions = record { passes = leb 1 actions && leb actions 512; refusal = Count 7 }

@@ -62,13 +62,16 @@ stripsKind = record {
 }
 
 -- the checks of the counts, the start and the goal
-abbrev pub stripsHeadChecks : List ℕ → List Check
-stripsHeadChecks bs =
-    record { passes = leb 1 (byteAt bs 6) && leb (byteAt bs 6) 16; refusal = Count 6 }
-    ∷ actionsCheck bs
-    ∷ record { passes = presentMask bs 9; refusal = StartOrGoal 9 }
-    ∷ record { passes = presentMask bs 13; refusal = StartOrGoal 13 }
+abbrev pub stripsHead : ℕ → ℕ → ℕ → ℕ → List Check
+stripsHead facts actions start goal =
+    record { passes = leb 1 facts && leb facts 16; refusal = Count 6 }
+    ∷ actionsCheck actions
+    ∷ record { passes = ltb start (2 ^ facts); refusal = StartOrGoal 9 }
+    ∷ record { passes = ltb goal (2 ^ facts); refusal = StartOrGoal 13 }
     ∷ []
+
+abbrev pub stripsHeadChecks : List ℕ → List Check
+stripsHeadChecks bs = stripsHead (byteAt bs 6) (num16 bs 7) (num32 bs 9) (num32 bs 13)
 
 -- the checks of a fact sheet, in their order
 abbrev pub stripsChecks : List ℕ → List Check

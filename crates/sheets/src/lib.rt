@@ -1,0 +1,5 @@
+// Sheets: reading puzzles from their bytes, and the tasks that they describe.
+mod bytes;
+mod frame;
+pub mod head;
+pub mod strips;
