@@ -176,3 +176,7 @@ records-on k bs n i p h = ap (λ m. recordsChecks k bs m p) (let e : n - i ≡ s
 
 pub actions-on : {C : Type 0} (k : KindOf) (read : List ℕ → ℕ → C) (bs : List ℕ) (n i p : ℕ) → i < n → actionsFrom k read bs (n - i) p ≡ actionAt k read bs p ∷ actionsFrom k read bs (n - (i + 1)) (recordEnd bs p)
 actions-on k read bs n i p h = ap (λ m. actionsFrom k read bs m p) (let e : n - i ≡ suc (n - (i + 1)) = omega arith in e)
+
+pub actions-count : {C : Type 0} (k : KindOf) (read : List ℕ → ℕ → C) (bs : List ℕ) (n p : ℕ) → length (actionsFrom k read bs n p) ≡ n
+actions-count k read bs zero p = refl
+actions-count k read bs (suc n) p = ap suc (actions-count k read bs n (recordEnd bs p))

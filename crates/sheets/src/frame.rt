@@ -30,6 +30,7 @@ pub(crate) trait SheetKind {
         ensures { λ r. ⌜ r ≡ kind .present (now (sheet .entry)) at ⌝ };
 }
 
+#[derive(Clone, Copy)]
 pub(crate) struct Opening {
     pub(crate) size: u8,
     pub(crate) actions: u16,

@@ -3,8 +3,9 @@ ghost use mathlib.Core.Path.{_≡_};
 ghost use Prim.Native.Nat.{_^_};
 ghost use lib.Dec.{ltb};
 ghost use Rattle.sheet_layout.specs.Checks.{firstFailing};
-ghost use Rattle.sheet_layout.specs.Strips.{stripsKind, stripsHead};
+ghost use Rattle.sheet_layout.specs.Strips.{stripsKind, stripsHead, stripsChecks};
 ghost use Rattle.sheets.specs.Outcomes.{Answers};
+ghost use Rattle.sheets.specs.Reading.{HeadAt, StripsChecked, Unique};
 use crate::bytes::u32_at;
 use crate::frame::SheetKind;
 use crate::frame::check_opening;
@@ -96,4 +97,27 @@ impl StripsHead {
     {
         self.goal
     }
+}
+
+// The checks of a fact sheet, and its head by the places of its numbers.
+fn verify(sheet: &[u8]) -> Result<StripsHead, Refusal>
+    ensures { λ r. ⌜ Answers (firstFailing (stripsChecks (now (sheet .entry)))) (HeadAt (now (sheet .entry))) r ⌝ }
+{
+    let opening = check_opening::<FactsKind>(sheet)?;
+    let head = StripsHead::new(
+        opening.size,
+        opening.actions,
+        u32_at(sheet, 9),
+        u32_at(sheet, 13),
+    )?;
+    check_records::<FactsKind>(sheet, head.actions, 17)?;
+    Ok(head)
+}
+
+// A whole fact sheet, altering nothing.
+pub fn check_strips(sheet: &[u8]) -> Result<StripsHead, Refusal>
+    ensures checked { λ r. ⌜ StripsChecked (now (sheet .entry)) r ⌝ }
+    ensures unique { λ _. ⌜ Unique (now (sheet .entry)) ⌝ }
+{
+    verify(sheet)
 }
