@@ -2,4 +2,5 @@ pub mod Bytewise
 pub mod Rows
 pub mod Framing
 pub mod Opening
+pub mod Walking
 pub mod StripsSheets

@@ -133,6 +133,13 @@ head-pass bs rest h =
 facts-head : (bs : List ℕ) → byteAt bs 5 ≡ 1 → headOf bs ≡ 17
 facts-head bs e = ap (λ n. headLength n (byteAt bs 6)) e
 
+-- where a sheet passes, its head is whole and its records pass
+pub to-records : (bs : List ℕ) → firstFailing (stripsChecks bs) ≡ None → (17 ≤ length bs) × (firstFailing (recordsChecks stripsKind bs (num16 bs 7) 17) ≡ None)
+to-records bs h =
+    let records = recordsChecks stripsKind bs (num16 bs 7) 17 in
+    let o = opening-passed stripsKind bs (stripsHeadChecks bs ++ records) h in
+    (omega (arith, o .0 .head, facts-head bs (o .0 .kind)), head-passed bs records (o .1) .1)
+
 -- what passes is the sheet of a valid content
 pub strips-sound : (bs : List ℕ) → Bytes bs → firstFailing (stripsChecks bs) ≡ None → ValidStrips (stripsRead bs) × (stripsBytes (stripsRead bs) ≡ bs)
 strips-sound bs small h =

@@ -57,9 +57,13 @@ priced x = x .coins
 abbrev pub roomCheck : ℕ → ℕ → ℕ → Check
 roomCheck needed actions prices = record { passes = leb needed actions && leb needed prices; refusal = Short needed }
 
--- the tables hold the content in their first entries, and the rest is as it was; or they are untouched
+-- a table whose first entries hold the content, and whose rest is as it was
+abbrev pub Filled : {X : Type 0} → (Action Masks → X) → StripsContent → List X → List X → Type 0
+Filled f c table table′ = table′ ≡ map f (c .actions) ++ drop (length (c .actions)) table
+
+-- the tables hold the content, or they are untouched
 abbrev pub StripsReadInto : List ℕ → List StripsAction → List ℕ → List StripsAction → List ℕ → Result StripsHead Refusal → Type 0
 StripsReadInto bs actions prices actions′ prices′ (Ok h) =
-    (c : StripsContent) × Sheet bs c × HeadOf h c × (actions′ ≡ map tabled (c .actions) ++ drop (length (c .actions)) actions) × (prices′ ≡ map priced (c .actions) ++ drop (length (c .actions)) prices)
+    (c : StripsContent) × Sheet bs c × HeadOf h c × Filled tabled c actions actions′ × Filled priced c prices prices′
 StripsReadInto bs actions prices actions′ prices′ (Err e) =
     (firstFailing (stripsChecks bs ++ (roomCheck (num16 bs 7) (length actions) (length prices) ∷ [])) ≡ Some e) × (actions′ ≡ actions) × (prices′ ≡ prices)

@@ -1,11 +1,15 @@
 // Fact sheets: STRIPS tasks.
 ghost use mathlib.Core.Path.{_≡_};
-ghost use Prim.Native.Nat.{_^_};
+ghost use Prim.Native.Nat.{_+_, _^_, _≤_};
+ghost use lib.ListN.{length};
 ghost use lib.Dec.{ltb};
+ghost use Rattle.std.specs.declared.option.Option.the-variants.{None};
 ghost use Rattle.sheet_layout.specs.Checks.{firstFailing};
-ghost use Rattle.sheet_layout.specs.Strips.{stripsKind, stripsHead, stripsChecks};
+ghost use Rattle.sheet_layout.specs.Numbers.{num16, num32};
+ghost use Rattle.sheet_layout.specs.Strips.{StripsContent, stripsKind, stripsHead, stripsChecks};
 ghost use Rattle.sheets.specs.Outcomes.{Answers};
-ghost use Rattle.sheets.specs.Reading.{HeadAt, StripsChecked, Unique};
+ghost use Rattle.sheets.specs.Reading.{HeadAt, Sheet, StripsChecked, Unique, Filled, tabled, priced, StripsReadInto};
+use crate::bytes::u16_at;
 use crate::bytes::u32_at;
 use crate::frame::SheetKind;
 use crate::frame::check_opening;
@@ -120,4 +124,48 @@ pub fn check_strips(sheet: &[u8]) -> Result<StripsHead, Refusal>
     ensures unique { λ _. ⌜ Unique (now (sheet .entry)) ⌝ }
 {
     verify(sheet)
+}
+
+// What the action whose masks stand at a place needs and does.
+pub(crate) fn masks_at(sheet: &[u8], at: usize) -> StripsAction
+    requires { ⌜ at + 12 ≤ length (now sheet) ⌝ }
+    ensures { λ r. ⌜ (r .preconditions ≡ num32 (now (sheet .entry)) at) × (r .adds ≡ num32 (now (sheet .entry)) (at + 4)) × (r .deletes ≡ num32 (now (sheet .entry)) (at + 8)) ⌝ }
+{
+    StripsAction {
+        preconditions: u32_at(sheet, at),
+        adds: u32_at(sheet, at + 4),
+        deletes: u32_at(sheet, at + 8),
+    }
+}
+
+// Copies the records of a sheet that passed its checks.
+fn fill(sheet: &[u8], count: u16, actions: &mut [StripsAction], prices: &mut [u32])
+    requires passes { ⌜ firstFailing (stripsChecks (now sheet)) ≡ None ⌝ }
+    requires count { ⌜ count ≡ num16 (now sheet) 7 ⌝ }
+    requires room { ⌜ count ≤ length (now actions) ⌝ ∗ ⌜ count ≤ length (now prices) ⌝ }
+    ensures { λ _. ⌜ ((c : StripsContent) → Sheet (now (sheet .entry)) c → Filled tabled c (now (actions .entry)) (now (actions .exit)) × Filled priced c (now (prices .entry)) (now (prices .exit))) ⌝ }
+{
+    let mut at = 17;
+    for i in 0..count as usize {
+        actions[i] = masks_at(sheet, at + 6);
+        prices[i] = u32_at(sheet, at + 2);
+        at = at + 2 + u16_at(sheet, at) as usize;
+    }
+}
+
+// A whole fact sheet into the caller's tables, which a refusal leaves untouched.
+pub fn read_strips(
+    sheet: &[u8],
+    actions: &mut [StripsAction],
+    prices: &mut [u32],
+) -> Result<StripsHead, Refusal>
+    ensures { λ r. ⌜ StripsReadInto (now (sheet .entry)) (now (actions .entry)) (now (prices .entry)) (now (actions .exit)) (now (prices .exit)) r ⌝ }
+{
+    let head = verify(sheet)?;
+    let needed = head.actions as usize;
+    if actions.len() < needed || prices.len() < needed {
+        return Err(Refusal::Short { needed });
+    }
+    fill(sheet, head.actions, actions, prices);
+    Ok(head)
 }
