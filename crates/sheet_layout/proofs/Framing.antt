@@ -14,7 +14,7 @@ use Rattle.std.proofs.shelf.Lists.{drop-drop, drop-at, take-at, length-take-le,
 use Rattle.std.proofs.shelf.Tests.{and-parts, and-from, leb-true, le-leb, cases-lt}
 use Rattle.planning.specs.declared.refusal.Refusal.the-variants.{Frame, Price, Names}
 use Rattle.sheet_layout.specs.Checks.{Check, firstFailing}
-use Rattle.sheet_layout.specs.Frame.{Action, ValidAction, KindOf, recordBytes, recordEnd, framed, recordChecks, recordsChecks}
+use Rattle.sheet_layout.specs.Frame.{Action, ValidAction, KindOf, recordBytes, recordEnd, recordPlace, framed, recordChecks, recordsChecks}
 use Rattle.sheet_layout.specs.Numbers.{Bytes, be16, be32, num16, num32}
 use Rattle.sheet_layout.proofs.Bytewise.{read16, read32, written16, written32, past}
 use Rattle.sheet_layout.proofs.Rows.{passed, pass, after}
@@ -124,6 +124,21 @@ module _ {C : Type 0} (k : KindOf) (layout : C → List ℕ) (Valid : C → Type
       let one = record-sound p (told .0) in
       let more = records-sound n (recordEnd bs p) (told .0 .frame .inside) (told .1) in
       (ap (λ l. recordBytes layout (actionAt k read bs p) ++ l) (more .0) ∙ one .0, (one .1, more .1), ap suc (more .2))
+
+  -- places are where the layouts before them end
+  pub places-sound : (i n p : ℕ) → p ≤ length bs → i ≤ n → firstFailing (recordsChecks k bs n p) ≡ None → recordPlace bs i p ≡ p + length (joined (recordBytes layout) (take i (actionsFrom k read bs n p)))
+  places-sound zero n p le less h = omega arith
+  places-sound (suc i) zero p le less h = absurd (omega arith)
+  places-sound (suc i) (suc n) p le less h =
+      let told = record-passed k bs p (recordsChecks k bs n (recordEnd bs p)) h in
+      let inside = told .0 .frame .inside in
+      let one = record-sound p (told .0) .0 in
+      let x = recordBytes layout (actionAt k read bs p) in
+      let long : length x + (length bs - recordEnd bs p) ≡ length bs - p = ap (λ m. length x + m) (sym (length-drop (recordEnd bs p) bs)) ∙ sym (length-append x (drop (recordEnd bs p) bs)) ∙ ap length one ∙ length-drop p bs in
+      let more = places-sound i n (recordEnd bs p) inside (omega arith) (told .1) in
+      let rest = joined (recordBytes layout) (take i (actionsFrom k read bs n (recordEnd bs p))) in
+      let room = told .0 .frame .room in
+      omega (arith, more, long, length-append x rest, inside, room)
 
   -- the layout of a valid action passes, and is read back
   record-complete : (p : ℕ) (x : Action C) (rest : List ℕ) → ValidAction Valid x → drop p bs ≡ recordBytes layout x ++ rest

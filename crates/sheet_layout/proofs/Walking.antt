@@ -1,13 +1,14 @@
 -- A walk over the records of a sheet that passed, and a table that is filled along the way.
-use mathlib.Core.Path.{_≡_, refl, sym, ap, subst, _∙_}
+use mathlib.Core.Path.{_≡_, refl, sym, ap, subst₂, _∙_}
 use mathlib.Core.List.{List, [], _∷_, _++_, map, append-assoc}
-use Prim.Native.Nat.{ℕ, suc, _+_, _-_, _≤_, _<_}
+use Prim.Native.Nat.{ℕ, zero, suc, _+_, _-_, _≤_, _<_}
+use native.Mathlib.Numerals.{add-one}
 use native.Mathlib.Omega.{arith}
 use lib.ListN.{length, take, drop, set, getD, length-append, take-append-drop}
 use Rattle.std.specs.declared.option.Option.the-variants.{None}
 use Rattle.std.proofs.shelf.Lists.{length-map, length-take-le, length-drop, map-append, drop-drop, drop-more, set-at, take-at, take-all, take-map}
 use Rattle.sheet_layout.specs.Checks.{firstFailing}
-use Rattle.sheet_layout.specs.Frame.{Action, KindOf, recordEnd, recordChecks, recordsChecks}
+use Rattle.sheet_layout.specs.Frame.{Action, KindOf, recordEnd, recordPlace, recordChecks, recordsChecks}
 use Rattle.sheet_layout.proofs.Framing.{Passed, actionAt, actionsFrom, actions-count, actions-on, records-on, record-passed}
 
 -- after i of n records, the next stands at p
@@ -40,6 +41,22 @@ module _ {C : Type 0} (k : KindOf) (read : List ℕ → ℕ → C) (bs : List �
       passes = walk-passed .1;
       ahead = ap (drop 1) (sym walk-item) ∙ drop-drop 1 i (actionsFrom k read bs n first);
     }
+
+-- one record further
+pub place-next : (bs : List ℕ) (i p : ℕ) → recordPlace bs (i + 1) p ≡ recordEnd bs (recordPlace bs i p)
+place-next bs i p = ap (λ n. recordPlace bs n p) (add-one i) ∙ go i p
+  where
+    go : (n q : ℕ) → recordPlace bs (suc n) q ≡ recordEnd bs (recordPlace bs n q)
+    go zero q = refl
+    go (suc n) q = go n (recordEnd bs q)
+
+module _ {C : Type 0} (k : KindOf) (read : List ℕ → ℕ → C) (bs : List ℕ) (first n : ℕ) (start : Walk k read bs first n 0 first) where
+  pub walk-to : (i : ℕ) → i ≤ n → Walk k read bs first n i (recordPlace bs i first)
+  walk-to zero le = start
+  walk-to (suc i) le =
+      let before = walk-to i (omega arith) in
+      let after = walk-next k read bs first n i (recordPlace bs i first) before le in
+      subst₂ (Walk k read bs first n) (add-one i) (sym (place-next bs i first) ∙ ap (λ m. recordPlace bs m first) (add-one i)) after
 
 -- the first i entries of a table are those of a list, the rest is as it was
 abbrev pub Copied : {A X : Type 0} → (A → X) → List A → List X → ℕ → List X → Type 0

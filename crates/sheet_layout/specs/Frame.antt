@@ -57,6 +57,11 @@ pub record KindOf : Type 0 where
 abbrev pub recordEnd : List ℕ → ℕ → ℕ
 recordEnd bs p = p + 2 + num16 bs p
 
+-- the place of the record that comes n records after the one at p
+abbrev pub recordPlace : List ℕ → ℕ → ℕ → ℕ
+recordPlace bs zero p = p
+recordPlace bs (suc n) p = recordPlace bs n (recordEnd bs p)
+
 -- the record at p lies in the sheet, its lists lie in the record, and its name has 1 to 32 bytes
 abbrev pub framed : KindOf → List ℕ → ℕ → Bool
 framed k bs p =

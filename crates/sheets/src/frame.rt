@@ -5,7 +5,7 @@ ghost use Prim.Native.Nat.{_+_, _≤_};
 ghost use lib.ListN.{length};
 ghost use Rattle.std.specs.declared.option.Option.the-variants.{Some, None};
 ghost use Rattle.sheet_layout.specs.Checks.{firstFailing};
-ghost use Rattle.sheet_layout.specs.Frame.{KindOf, headLength, framed, recordEnd, recordChecks, recordsChecks, openingChecks};
+ghost use Rattle.sheet_layout.specs.Frame.{KindOf, headLength, framed, recordEnd, recordPlace, recordChecks, recordsChecks, openingChecks};
 ghost use Rattle.sheet_layout.specs.Numbers.{byteAt, num16};
 ghost use Rattle.sheets.specs.Outcomes.{Answers};
 use crate::bytes::u16_at;
@@ -122,4 +122,18 @@ pub(crate) fn check_records<K: SheetKind>(
         return Err(Refusal::Frame { byte: at });
     }
     Ok(())
+}
+
+// The place of a record by its number, in a sheet whose records passed.
+pub(crate) fn locate<K: SheetKind>(sheet: &[u8], count: u16, first: usize, number: u16) -> usize
+    requires inside { ⌜ first ≤ length (now sheet) ⌝ }
+    requires passes { ⌜ firstFailing (recordsChecks (K·SheetKind .kind) (now sheet) count first) ≡ None ⌝ }
+    requires below { ⌜ number ≤ count ⌝ }
+    ensures { λ r. ⌜ r ≡ recordPlace (now (sheet .entry)) number first ⌝ }
+{
+    let mut at = first;
+    for i in 0..number {
+        at = at + 2 + u16_at(sheet, at) as usize;
+    }
+    at
 }

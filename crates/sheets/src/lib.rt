@@ -2,4 +2,5 @@
 mod bytes;
 mod frame;
 pub mod head;
+pub mod record;
 pub mod strips;

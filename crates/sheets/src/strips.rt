@@ -35,7 +35,7 @@ pub(crate) fn holds_only(set: u32, facts: u8) -> bool
 // The kind of sheet that is made of facts.
 pub(crate) struct Facts;
 
-impl SheetKind for Facts as FactsKind {
+pub(crate) impl SheetKind for Facts as FactsKind {
     ghost kind = { stripsKind };
 
     fn code() -> u8 {
@@ -104,7 +104,7 @@ impl StripsHead {
 }
 
 // The checks of a fact sheet, and its head by the places of its numbers.
-fn verify(sheet: &[u8]) -> Result<StripsHead, Refusal>
+pub(crate) fn verify(sheet: &[u8]) -> Result<StripsHead, Refusal>
     ensures { λ r. ⌜ Answers (firstFailing (stripsChecks (now (sheet .entry)))) (HeadAt (now (sheet .entry))) r ⌝ }
 {
     let opening = check_opening::<FactsKind>(sheet)?;

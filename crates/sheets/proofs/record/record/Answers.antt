@@ -1,0 +1,42 @@
+use mathlib.Core.Path.{_≡_, refl, sym, ap, subst, _∙_}
+use mathlib.Core.List.{[], _∷_, _++_}
+use native.Mathlib.Omega.{arith}
+use Rattle.std.specs.declared.option.Option.the-variants.{None}
+use Rattle.std.proofs.shelf.Results.{err-from-errBy}
+use Rattle.std.proofs.shelf.Tests.{le-ltb}
+use Rattle.sheet_layout.specs.Checks.{firstFailing}
+use Rattle.sheet_layout.specs.Frame.{recordPlace, framed}
+use Rattle.sheet_layout.specs.Numbers.{Bytes, num16}
+use Rattle.sheet_layout.specs.Strips.{stripsKind, stripsChecks}
+use Rattle.sheet_layout.proofs.Rows.{after, within, fail}
+use Rattle.sheet_layout.proofs.StripsSheets.{stripsRead}
+use Rattle.sheets.specs.Records.{StripsAt, numberCheck}
+use Rattle.sheets.proofs.Verdicts.{passes, fits-there, record-there}
+use Rattle.sheets.proofs.record.record.Needs as need
+
+pub returns-in-Break-head : need.returns-in-Break-head
+returns-in-Break-head c =
+    let p = err-from-errBy (c .from-residual .result) (c .from-residual .ensures .1) in
+    rw (p .1, p .2) (within (stripsChecks (c .args .sheet .now)) _ _ (c .in-Break-head .ensures tt))
+
+pub returns-then-number-head : need.returns-then-number-head
+returns-then-number-head c =
+    let bs = c .args .sheet .now in
+    let told = c .in-Continue-head .ensures tt in
+    let last = numberCheck (num16 bs 7) (c .args .number) in
+    after (stripsChecks bs) (last ∷ []) (told .0) ∙ fail (last .passes) (last .refusal) None (le-ltb (c .args .number) (num16 bs 7) (omega (arith, told .1 .actions, c .if-number-head .taken)))
+
+pub strips-record-requires : need.strips-record-requires
+strips-record-requires c κs =
+    let bs = c .args .sheet .now in
+    let small : Bytes bs = λ i. omega (arith, c .typed .sheet i) in
+    let told = c .in-Continue-head .ensures tt in
+    rw (c .locate-at .ensures) (fits-there bs small (told .0) (c .args .number) (omega (arith, told .1 .actions, c .if-number-head .left)))
+
+pub returns : need.returns
+returns c =
+    let bs = c .args .sheet .now in
+    let small : Bytes bs = λ i. omega (arith, c .typed .sheet i) in
+    let told = c .in-Continue-head .ensures tt in
+    let there = subst (λ p. StripsAt bs p (c .strips-record .result)) (c .locate-at .ensures) (c .strips-record .ensures) in
+    (stripsRead bs, passes bs small (told .0), record-there bs small (told .0) (c .args .number) (omega (arith, told .1 .actions, c .if-number-head .left)) (c .strips-record .result) there)
