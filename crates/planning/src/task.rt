@@ -13,10 +13,10 @@ pub trait Task {
     // The task itself: everything below answers by it, for every number, absent ones included.
     ghost model: { Self → Model };
 
-    ghost lawful: { (t : Self) → TaskLaws (model t) };
-
+    // Promises besides that the task keeps the ranges of a task.
     fn states(&self) -> u32
-        ensures { λ r. ⌜ r ≡ model (now (self .entry)) .states ⌝ };
+        ensures value { λ r. ⌜ r ≡ model (now (self .entry)) .states ⌝ }
+        ensures lawful { λ _. ⌜ TaskLaws (model (now (self .entry))) ⌝ };
 
     fn actions(&self) -> u16
         ensures { λ r. ⌜ r ≡ model (now (self .entry)) .actions ⌝ };

@@ -1,2 +1,5 @@
+pub mod FactSets
 pub mod Shifts
+pub mod StripsLaws
+pub mod StripsSteps
 pub mod Verdicts

@@ -4,3 +4,4 @@ mod frame;
 pub mod head;
 pub mod record;
 pub mod strips;
+pub mod strips_task;
