@@ -3,4 +3,5 @@ pub mod cost;
 pub mod heuristic;
 pub mod open_list;
 pub mod refusal;
+pub mod status;
 pub mod task;
