@@ -1,2 +1,3 @@
+pub mod Invariant
 pub mod Labels
 pub mod Offers
