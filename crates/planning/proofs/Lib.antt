@@ -1,3 +1,4 @@
+pub mod Frontier
 pub mod Invariant
 pub mod Labels
 pub mod Offers

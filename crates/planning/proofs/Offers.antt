@@ -21,6 +21,11 @@ use Rattle.planning.specs.Search.{Memory, Same, label, takes, Recorded, Offere
 use Rattle.planning.specs.Task.{Model}
 use Rattle.planning.proofs.Labels.{NotAfter, not-after-self, not-after-trans, earlier-not-after}
 
+pub none-some : {X : Type 0} {x : Option X} {y : X} → x ≡ None → x ≡ Some y → ⊥
+none-some e f =
+    let z : _≡_ {A = ℕ} 0 1 = cc (e, f) in
+    omega arith
+
 nth-set-same : {X : Type 0} (xs : List X) (q : ℕ) (r y : X) → nth xs q ≡ Some r → nth (set xs q y) q ≡ Some y
 nth-set-same [] q r y e = cc
 nth-set-same (x ∷ xs) zero r y e = refl
