@@ -2,3 +2,4 @@ pub mod Frontier
 pub mod Invariant
 pub mod Labels
 pub mod Offers
+pub mod Verdicts
