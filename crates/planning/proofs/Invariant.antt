@@ -179,13 +179,14 @@ module _ {K : Type 0} (t : Model) (a : Algebra K) (h : Estimates K) where
           let old = i .settled q y e b (sym (marks q) ∙ f) (sym (change .others q g) ∙ w) d in
           record { no-goal = old .no-goal; offered = λ c to _ k. covered (to .state) (shift a y (a .charge (to .coins))) (old .offered c to tt k) }
 
-  module _ (l : CostLaws a) (laws : TaskLaws t) (s action limit : ℕ) (table : List (Record K)) (c : Configuration K) (o : Started t a (a .plus) h s action limit table c) where
-    blank-marks : (p : ℕ) → p < t .states → mark (o .empty) p ≡ None
+  module _ (s action limit : ℕ) (table : List (Record K)) (c : Configuration K) (o : Started t a (a .plus) h s action limit table c) where
+    pub blank-marks : (p : ℕ) → p < t .states → mark (o .empty) p ≡ None
     blank-marks p b = ap (λ z. known (nth z p)) (o .is-empty .table) ∙ ap known (nth-replicate (t .states) p (blank a) _ b)
 
     empty-invariant : Invariant s action All (o .empty)
     empty-invariant = record { ways = λ p y b e. absurd (let k = blank-marks p b in let z : _≡_ {A = ℕ} 0 1 = cc (e, k) in omega arith); entries = λ p z e. absurd (let k = o .is-empty .waiting p in let z : _≡_ {A = ℕ} 0 1 = cc (e, k) in omega arith); settled = λ p y e b f _ _. absurd (let k = blank-marks p b in let z : _≡_ {A = ℕ} 0 1 = cc (f, k) in omega arith) }
 
+  module _ (l : CostLaws a) (laws : TaskLaws t) (s action limit : ℕ) (table : List (Record K)) (c : Configuration K) (o : Started t a (a .plus) h s action limit table c) where
     root-way : Way t a s action s (record { cost = a .zero; tagged = false })
     root-way = record { actions = []; path = stay; begins = λ e. absurd (let z : _≡_ {A = ℕ} 0 1 = cc e in omega arith) }
 
@@ -195,7 +196,7 @@ module _ {K : Type 0} (t : Model) (a : Algebra K) (h : Estimates K) where
     pub started-invariant : Invariant s action All (c .memory)
     started-invariant =
         let at = laws .step s action (o .to) (o .startable .leads) in
-        let mid = offer-keeps l s action s _ (o .empty) (o .between) (at .from) root-way (o .untagged) All empty-invariant in
+        let mid = offer-keeps l s action s _ (o .empty) (o .between) (at .from) root-way (o .untagged) All (empty-invariant s action limit table c o) in
         offer-keeps l s action (o .to .state) _ (o .between) (c .memory) (at .into) branch-way (o .tagged) All mid
 
     pub started-rooted : Rooted s action (c .memory)

@@ -1,3 +1,4 @@
+pub mod Bound
 pub mod Frontier
 pub mod Invariant
 pub mod Labels
