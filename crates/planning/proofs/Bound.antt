@@ -84,7 +84,7 @@ live-closed None w d = refl
 live-closed (Some x) None d = absurd (d x refl refl)
 live-closed (Some x) (Some y) d = refl
 
-closed-not-open : (tag : Bool) → verdictOf tag ≡ Open → ⊥
+pub closed-not-open : (tag : Bool) → verdictOf tag ≡ Open → ⊥
 closed-not-open true e =
     let z : _≡_ {A = ℕ} 0 1 = cc e in
     omega arith
@@ -224,7 +224,7 @@ module _ {K : Type 0} (t : Model) (a : Algebra K) (h : Estimates K) where
 
   module _ (s action limit : ℕ) (table : List (Record K)) (c : Configuration K) (o : Started t a (a .plus) h s action limit table c) where
     none-closed : NoneClosed (c .memory)
-    none-closed = offer-none-closed (o .to .state) _ (o .between) (c .memory) (o .tagged) (offer-none-closed s _ (o .empty) (o .between) (o .untagged) (λ p y e b f _ _. none-some (blank-marks t a h s action limit table c o p b) f))
+    none-closed = offer-none-closed (o .to .state) _ (o .between) (c .memory) (o .tagged) (offer-none-closed s _ (o .empty) (o .between) (o .untagged) (λ p y e b f _ _. none-some (blank-marks t a table (o .empty) (o .is-empty) p b) f))
 
     pub started-few : Few c
     started-few = record { few = rw (o .turns) (omega (arith, total-ones (λ p. live (mark (c .memory) p) (c .memory .waiting p)) (t .states) (λ p. live-one (mark (c .memory) p) (c .memory .waiting p)))); sorted = λ _ q z _ p y e b f g k. absurd (none-closed p y e b f g k) }

@@ -15,10 +15,10 @@ use Rattle.planning.specs.Estimates.{Estimates}
 use Rattle.planning.specs.Labels.{Label}
 use Rattle.planning.specs.Paths.{Path, stay, step}
 use Rattle.planning.specs.Lists.{Changed}
-use Rattle.planning.specs.Search.{Memory, Configuration, label, blank, Offered, offer, Swept, Started}
+use Rattle.planning.specs.Search.{Memory, Configuration, label, blank, Cleared, Offered, offer, Swept, Started}
 use Rattle.planning.specs.Task.{Model, TaskLaws}
 use Rattle.planning.proofs.Labels.{shift}
-use Rattle.planning.proofs.Offers.{known, mark, mark-from, nth-replicate, Covered, Took, Each, as-was, took, each, covers, covered-keeps, along-sweep}
+use Rattle.planning.proofs.Offers.{none-some, known, mark, mark-from, nth-replicate, Covered, Took, Each, as-was, took, each, covers, covered-keeps, along-sweep}
 
 module _ {K : Type 0} (t : Model) (a : Algebra K) where
   -- one more action at the end of a path
@@ -34,6 +34,10 @@ module _ {K : Type 0} (t : Model) (a : Algebra K) where
 
   pub way-more : CostLaws a → (s action p b : ℕ) (y : Label K) (to : Transition) → Way s action p y → t .transition p b ≡ Some to → Way s action (to .state) (shift a y (a .charge (to .coins)))
   way-more l s action p b y to w e = record { actions = w .actions ++ b ∷ []; path = path-more l b to (w .path) e; begins = λ g. (w .begins g .0 ++ b ∷ [], ap (λ z. z ++ b ∷ []) (w .begins g .1)) }
+
+  -- nothing is known of the states of the task in a cleared table
+  pub blank-marks : (old : List (Record K)) (m : Memory K) → Cleared t a old m → (p : ℕ) → p < t .states → mark m p ≡ None
+  blank-marks old m c p b = ap (λ z. known (nth z p)) (c .table) ∙ ap known (nth-replicate (t .states) p (blank a) _ b)
 
 module _ {K : Type 0} (t : Model) (a : Algebra K) (h : Estimates K) where
   -- what a waiting entry z of p is: p is known, no dead end, and z is its label with the estimate added
@@ -149,7 +153,7 @@ module _ {K : Type 0} (t : Model) (a : Algebra K) (h : Estimates K) where
     expanded m m′ w i = (record { ways = end .invariant .ways; entries = end .invariant .entries; settled = λ q y e b f w d. all q y (end .invariant .settled q y e b f w d) }, end .rooted)
       where
         idle : (n : ℕ) (d : Memory K) → t .transition p n ≡ None → Expanding s action p r n d → Expanding s action p r (suc n) d
-        idle n d f i = expanding-more s action p r n d (λ to g. absurd (let z : _≡_ {A = ℕ} 0 1 = cc (f, g) in omega arith)) i
+        idle n d f i = expanding-more s action p r n d (λ to g. absurd (none-some f g)) i
 
         end : Expanding s action p r (t .actions) m′
         end = along-sweep t a (a .plus) h p r m (Expanding s action p r) i idle expanding-offer (t .actions) m′ w
@@ -179,12 +183,8 @@ module _ {K : Type 0} (t : Model) (a : Algebra K) (h : Estimates K) where
           let old = i .settled q y e b (sym (marks q) ∙ f) (sym (change .others q g) ∙ w) d in
           record { no-goal = old .no-goal; offered = λ c to _ k. covered (to .state) (shift a y (a .charge (to .coins))) (old .offered c to tt k) }
 
-  module _ (s action limit : ℕ) (table : List (Record K)) (c : Configuration K) (o : Started t a (a .plus) h s action limit table c) where
-    pub blank-marks : (p : ℕ) → p < t .states → mark (o .empty) p ≡ None
-    blank-marks p b = ap (λ z. known (nth z p)) (o .is-empty .table) ∙ ap known (nth-replicate (t .states) p (blank a) _ b)
-
-    empty-invariant : Invariant s action All (o .empty)
-    empty-invariant = record { ways = λ p y b e. absurd (let k = blank-marks p b in let z : _≡_ {A = ℕ} 0 1 = cc (e, k) in omega arith); entries = λ p z e. absurd (let k = o .is-empty .waiting p in let z : _≡_ {A = ℕ} 0 1 = cc (e, k) in omega arith); settled = λ p y e b f _ _. absurd (let k = blank-marks p b in let z : _≡_ {A = ℕ} 0 1 = cc (f, k) in omega arith) }
+  empty-invariant : (s action : ℕ) (old : List (Record K)) (m : Memory K) → Cleared t a old m → Invariant s action All m
+  empty-invariant s action old m c = record { ways = λ p y b e. absurd (none-some (blank-marks t a old m c p b) e); entries = λ p z e. absurd (none-some (c .waiting p) e); settled = λ p y e b f _ _. absurd (none-some (blank-marks t a old m c p b) f) }
 
   module _ (l : CostLaws a) (laws : TaskLaws t) (s action limit : ℕ) (table : List (Record K)) (c : Configuration K) (o : Started t a (a .plus) h s action limit table c) where
     root-way : Way t a s action s (record { cost = a .zero; tagged = false })
@@ -196,7 +196,7 @@ module _ {K : Type 0} (t : Model) (a : Algebra K) (h : Estimates K) where
     pub started-invariant : Invariant s action All (c .memory)
     started-invariant =
         let at = laws .step s action (o .to) (o .startable .leads) in
-        let mid = offer-keeps l s action s _ (o .empty) (o .between) (at .from) root-way (o .untagged) All (empty-invariant s action limit table c o) in
+        let mid = offer-keeps l s action s _ (o .empty) (o .between) (at .from) root-way (o .untagged) All (empty-invariant s action table (o .empty) (o .is-empty)) in
         offer-keeps l s action (o .to .state) _ (o .between) (c .memory) (at .into) branch-way (o .tagged) All mid
 
     pub started-rooted : Rooted s action (c .memory)

@@ -1,4 +1,5 @@
 pub mod Bound
+pub mod Exact
 pub mod Frontier
 pub mod Invariant
 pub mod Labels
