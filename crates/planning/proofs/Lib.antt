@@ -1,7 +1,9 @@
 pub mod Bound
 pub mod Exact
 pub mod Frontier
+pub mod Histories
 pub mod Invariant
 pub mod Labels
 pub mod Offers
+pub mod Theorem
 pub mod Verdicts

@@ -11,7 +11,7 @@ use Rattle.planning.specs.Costs.{Algebra}
 use Rattle.planning.specs.Estimates.{Admissible, Consistent, Bounded}
 use Rattle.planning.specs.Histories.{Owned, History, never, own, configuration}
 use Rattle.planning.specs.Paths.{Optimal, Solvable}
-use Rattle.planning.specs.Search.{Numbers, Configuration, Started, Runs}
+use Rattle.planning.specs.Search.{Numbers, Configuration, Started, Runs, Stopped}
 use Rattle.planning.specs.Task.{Model, TaskLaws}
 
 abbrev pub isVerdict : Status → Bool
@@ -45,6 +45,8 @@ pub record Promised {K : Type 0} (a : Algebra K) (n : Numbers) (o : Owned K) : T
   pub reached : Reached a n o
   pub meaning : Admissible (o .task) a (o .estimates) → isVerdict (n .status) ≡ true → Meaning (o .task) a (o .state) (o .action) (n .status)
   pub ends : Consistent (o .task) a (o .estimates) → o .task .states ≤ o .limit → Ends (o .task .states) (o .granted) n
+  -- an advance is never stopped by a foreign entry
+  pub unstopped : (budget place : ℕ) (c : Configuration K) → Stopped (o .task) a (a .computed) (o .estimates) budget place (configuration n o) c → ⊥
 
 -- what is promised of a marking that was never started
 pub record Unstarted (n : Numbers) : Type 0 where
