@@ -5,5 +5,5 @@ pub mod Histories
 pub mod Invariant
 pub mod Labels
 pub mod Offers
-pub mod Theorem
+pub mod Central
 pub mod Verdicts

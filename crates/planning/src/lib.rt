@@ -5,3 +5,4 @@ pub mod open_list;
 pub mod refusal;
 pub mod status;
 pub mod task;
+pub mod theorem;
