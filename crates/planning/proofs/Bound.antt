@@ -12,7 +12,7 @@ use Rattle.std.specs.declared.option.Option.the-variants.{Some, None}
 use Rattle.std.proofs.shelf.Tests.{both-ways}
 use Rattle.planning.specs.declared.cost.Record.{Record}
 use Rattle.planning.specs.declared.status.Status.{Status}
-use Rattle.planning.specs.declared.status.Status.the-variants.{Open, Best, Other, Stuck, Spent}
+use Rattle.planning.specs.declared.status.Status.the-variants.{Open}
 use Rattle.planning.specs.declared.task.Transition.{Transition}
 use Rattle.planning.specs.Costs.{Algebra, CostLaws, Strict}
 use Rattle.planning.specs.Estimates.{Estimates, Consistent}
@@ -21,9 +21,9 @@ use Rattle.planning.specs.Search.{Memory, Configuration, label, verdictOf, Off
 use Rattle.planning.specs.Task.{Model, TaskLaws}
 use Rattle.planning.specs.Theorem.{isVerdict, Ends}
 use Rattle.planning.proofs.Labels.{NotAfter, shift, not-after-self, not-after-trans, shift-shift, shift-front, shift-earlier}
-use Rattle.planning.proofs.Offers.{none-some, known, mark, mark-from, same-memory, Took, Each, as-was, took, each, along-sweep}
-use Rattle.planning.proofs.Invariant.{Invariant, All, Entered, blank-marks}
-use Rattle.planning.proofs.Verdicts.{Stage, going, done, runs-stage}
+use Rattle.planning.proofs.Offers.{none-some, known, mark, mark-from, same-memory, Each, as-was, took, each, along-sweep}
+use Rattle.planning.proofs.Invariant.{Invariant, All, blank-marks}
+use Rattle.planning.proofs.Verdicts.{closed-not-open, Stage, going, done, runs-stage}
 
 -- the sum of the first n values
 abbrev pub total : (ℕ → ℕ) → ℕ → ℕ
@@ -83,14 +83,6 @@ live-closed : {X Y : Type 0} (x : Option X) (w : Option Y) → ((y : X) → x �
 live-closed None w d = refl
 live-closed (Some x) None d = absurd (d x refl refl)
 live-closed (Some x) (Some y) d = refl
-
-pub closed-not-open : (tag : Bool) → verdictOf tag ≡ Open → ⊥
-closed-not-open true e =
-    let z : _≡_ {A = ℕ} 0 1 = cc e in
-    omega arith
-closed-not-open false e =
-    let z : _≡_ {A = ℕ} 0 1 = cc e in
-    omega arith
 
 -- how many states below n are unknown or wait
 abbrev pub left : {K : Type 0} → ℕ → Memory K → ℕ

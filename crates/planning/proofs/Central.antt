@@ -1,11 +1,9 @@
 -- The central theorem.
-use mathlib.Core.Path.{_≡_, refl, sym, ap, subst, _∙_}
-use mathlib.Core.Bool.{true, false, cond}
-use Prim.Native.Nat.{ℕ, _≤_, _<_}
+use mathlib.Core.Path.{_≡_, sym, ap, _∙_}
+use mathlib.Core.Bool.{cond}
+use Prim.Native.Nat.{ℕ}
 use native.Mathlib.Omega.{arith}
-use Rattle.std.specs.Finite.{nth}
 use Rattle.std.specs.declared.option.Option.the-variants.{Some, None}
-use Rattle.planning.specs.declared.cost.Record.{Record}
 use Rattle.planning.specs.declared.status.Status.{Status}
 use Rattle.planning.specs.declared.status.Status.the-variants.{Open}
 use Rattle.planning.specs.Costs.{Algebra, CostLaws, Strict}
@@ -15,15 +13,15 @@ use Rattle.planning.specs.Lists.{Waiting}
 use Rattle.planning.specs.Search.{Numbers, Memory, Configuration, Foreign, outside, unknown, nothing, Stopped, Onward, nothing-waits, at-limit, goes-on, Waits, label}
 use Rattle.planning.specs.Task.{Model, TaskLaws}
 use Rattle.planning.specs.Theorem.{Reached, Promised, Theorem}
-use Rattle.planning.proofs.Bound.{ends, runs-few, started-few, closed-not-open}
+use Rattle.planning.proofs.Bound.{ends, runs-few, started-few}
 use Rattle.planning.proofs.Exact.{runs-exact}
 use Rattle.planning.proofs.Histories.{Held, holds}
 use Rattle.planning.proofs.Invariant.{Invariant, All}
 use Rattle.planning.proofs.Offers.{none-some, known}
-use Rattle.planning.proofs.Verdicts.{Stage, going, done, started-stage, runs-stage, meaning}
+use Rattle.planning.proofs.Verdicts.{closed-not-open, Stage, going, done, started-stage, runs-stage, meaning}
 
 onward-waits : {K : Type 0} (w : Waiting K) (n k : ℕ) (s : Status) → Onward w n k s → s ≡ Open → Waits w
-onward-waits w n k s (nothing-waits _) e = absurd (let z : _≡_ {A = ℕ} 0 1 = cc e in omega arith)
+onward-waits w n k s (nothing-waits _) e = grind arith
 onward-waits w n k s (at-limit some _) e = some
 onward-waits w n k s (goes-on some _) e = some
 

@@ -4,9 +4,7 @@ use mathlib.Core.Bool.{Bool, true, false}
 use mathlib.Core.List.{List}
 use Prim.Native.Nat.{ℕ, zero, suc, _+_, _*_, _^_, _≤_, _<_}
 use native.Mathlib.Omega.{arith}
-use native.Mathlib.Nat.{add-suc, add-zero}
 use Rattle.std.specs.Finite.{nth}
-use Rattle.std.specs.declared.option.Option.{Option}
 use Rattle.std.specs.declared.option.Option.the-variants.{Some, None}
 use Rattle.planning.specs.declared.cost.Record.{Record}
 use Rattle.planning.specs.declared.status.Status.{Status}
@@ -16,15 +14,15 @@ use Rattle.planning.specs.Costs.{Algebra, CostLaws}
 use Rattle.planning.specs.Estimates.{Estimates, Bounded}
 use Rattle.planning.specs.Labels.{Label}
 use Rattle.planning.specs.Lists.{Waiting, Put}
-use Rattle.planning.specs.Search.{Memory, Configuration, Same, label, verdictOf, blank, Recorded, Offered, offer, Tried, Swept, none, more, Expanded, Turn, Runs, still, turn, Started, Onward, nothing-waits, at-limit, goes-on}
+use Rattle.planning.specs.Search.{Memory, Configuration, label, Recorded, Offered, offer, Swept, none, more, Turn, Runs, still, turn, Started, Onward, nothing-waits, at-limit, goes-on}
 use Rattle.planning.specs.Task.{Model, TaskLaws}
-use Rattle.planning.proofs.Offers.{none-some, known, mark, mark-from, same-memory, nth-replicate, Each, as-was, took, each, along-sweep}
+use Rattle.planning.proofs.Offers.{none-some, known, mark, mark-from, same-memory, Each, as-was, took, each, along-sweep}
 use Rattle.planning.proofs.Invariant.{blank-marks}
-use Rattle.planning.proofs.Bound.{closed-not-open}
+use Rattle.planning.proofs.Verdicts.{closed-not-open}
 
 onward-below : {K : Type 0} (w : Waiting K) (n k : ℕ) (s : Status) → Onward w n k s → s ≡ Open → n < k
-onward-below w n k s (nothing-waits _) e = absurd (let z : _≡_ {A = ℕ} 0 1 = cc e in omega arith)
-onward-below w n k s (at-limit _ _) e = absurd (let z : _≡_ {A = ℕ} 0 1 = cc e in omega arith)
+onward-below w n k s (nothing-waits _) e = grind arith
+onward-below w n k s (at-limit _ _) e = grind arith
 onward-below w n k s (goes-on _ b) e = b
 
 module _ {K : Type 0} (t : Model) (a : Algebra K) (h : Estimates K) (l : CostLaws a) (laws : TaskLaws t) (bounded : Bounded a h) where

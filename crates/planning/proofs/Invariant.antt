@@ -1,8 +1,8 @@
 -- What a search keeps: every label is the cost of a path, and every state that neither waits nor is a dead end has offered all.
 use mathlib.Core.Path.{_≡_, refl, sym, ap, subst, _∙_}
-use mathlib.Core.Bool.{Bool, true, false}
+use mathlib.Core.Bool.{true, false}
 use mathlib.Core.List.{List, [], _∷_, _++_}
-use Prim.Native.Nat.{ℕ, zero, suc, _≤_, _<_}
+use Prim.Native.Nat.{ℕ, zero, suc, _<_}
 use native.Mathlib.Omega.{arith}
 use native.Mathlib.Decide.{ℕ-discrete}
 use Rattle.std.specs.Finite.{nth}
@@ -18,7 +18,7 @@ use Rattle.planning.specs.Lists.{Changed}
 use Rattle.planning.specs.Search.{Memory, Configuration, label, blank, Cleared, Offered, offer, Swept, Started}
 use Rattle.planning.specs.Task.{Model, TaskLaws}
 use Rattle.planning.proofs.Labels.{shift}
-use Rattle.planning.proofs.Offers.{none-some, known, mark, mark-from, nth-replicate, Covered, Took, Each, as-was, took, each, covers, covered-keeps, along-sweep}
+use Rattle.planning.proofs.Offers.{none-some, known, mark, mark-from, nth-replicate, Covered, Each, as-was, took, each, covers, covered-keeps, along-sweep}
 
 module _ {K : Type 0} (t : Model) (a : Algebra K) where
   -- one more action at the end of a path
@@ -81,8 +81,7 @@ module _ {K : Type 0} (t : Model) (a : Algebra K) (h : Estimates K) where
         go : (w : Option K) → h p ≡ w → Entered m′ p z
         go None d =
             let f = i p z (sym (new .dead-end d) ∙ e) in
-            let z : _≡_ {A = ℕ} 0 1 = cc (d, f .estimated) in
-            absurd (omega arith)
+            absurd (none-some d (f .estimated))
         go (Some w) d = record { within = subst (λ p. p < t .states) (sym here) within; label = x; is = new .mark; estimate = w; estimated = d; front = cc (e, new .put w d) }
 
     offer-settled : (Paid : ℕ → ℕ → Type 0) → ((p : ℕ) (y : Label K) (e : K) → p < t .states → mark m p ≡ Some y → m .waiting p ≡ None → h p ≡ Some e → Settled Paid m p y) → (p : ℕ) (y : Label K) (e : K) → Each a (a .plus) h q x m m′ p → p < t .states → mark m′ p ≡ Some y → m′ .waiting p ≡ None → h p ≡ Some e → Settled Paid m′ p y
@@ -90,8 +89,7 @@ module _ {K : Type 0} (t : Model) (a : Algebra K) (h : Estimates K) where
         let old = i p y e b (sym k ∙ f) (sym w ∙ g) d in
         record { no-goal = old .no-goal; offered = λ c to paid f. covered-keeps a (a .plus) h q x m m′ l o (to .state) (shift a y (a .charge (to .coins))) (old .offered c to paid f) }
     offer-settled Paid i p y e (took here new) b f g d =
-        let z : _≡_ {A = ℕ} 0 1 = cc (g, new .put e d) in
-        absurd (omega arith)
+        absurd (none-some g (new .put e d))
 
     pub offer-keeps : (Paid : ℕ → ℕ → Type 0) → Invariant s action Paid m → Invariant s action Paid m′
     offer-keeps Paid i = record { ways = λ p y. offer-ways (i .ways) p y (each a (a .plus) h q x m m′ o p); entries = λ p z. offer-entries (i .entries) p z (each a (a .plus) h q x m m′ o p); settled = λ p y e. offer-settled Paid (i .settled) p y e (each a (a .plus) h q x m m′ o p) }
@@ -172,7 +170,7 @@ module _ {K : Type 0} (t : Model) (a : Algebra K) (h : Estimates K) where
       covered q x c = record { label = c .label; is = marks q ∙ c .is; not-after = c .not-after }
 
       entries : (q : ℕ) (z : Label K) → rest .waiting q ≡ Some z → Dec (q ≡ p) → Entered rest q z
-      entries q z e (yes f) = absurd (let k : rest .waiting q ≡ None = subst (λ q. rest .waiting q ≡ None) (sym f) (change .here) in let z : _≡_ {A = ℕ} 0 1 = cc (e, k) in omega arith)
+      entries q z e (yes f) = absurd (none-some (ap (rest .waiting) f ∙ change .here) e)
       entries q z e (no d) =
           let f = i .entries q z (sym (change .others q d) ∙ e) in
           record { within = f .within; label = f .label; is = marks q ∙ f .is; estimate = f .estimate; estimated = f .estimated; front = f .front }
@@ -188,7 +186,7 @@ module _ {K : Type 0} (t : Model) (a : Algebra K) (h : Estimates K) where
 
   module _ (l : CostLaws a) (laws : TaskLaws t) (s action limit : ℕ) (table : List (Record K)) (c : Configuration K) (o : Started t a (a .plus) h s action limit table c) where
     root-way : Way t a s action s (record { cost = a .zero; tagged = false })
-    root-way = record { actions = []; path = stay; begins = λ e. absurd (let z : _≡_ {A = ℕ} 0 1 = cc e in omega arith) }
+    root-way = record { actions = []; path = stay; begins = λ e. grind arith }
 
     branch-way : Way t a s action (o .to .state) (record { cost = a .charge (o .to .coins); tagged = true })
     branch-way = record { actions = action ∷ []; path = subst (Path t a s (action ∷ []) (o .to .state)) (l .zero-right _) (step (o .to) (o .startable .leads) stay); begins = λ _. ([], refl) }

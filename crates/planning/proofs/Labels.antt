@@ -1,9 +1,9 @@
 -- The order of labels: "not after" is a total preorder, and adding a cost behind keeps it both ways.
-use mathlib.Core.Path.{_≡_, refl, sym, ap, subst, _∙_}
-use mathlib.Core.Bool.{Bool, true, false}
+use mathlib.Core.Path.{_≡_, ap}
+use mathlib.Core.Bool.{true, false}
 use native.Mathlib.Omega.{arith}
 use Rattle.planning.specs.Costs.{Algebra, CostLaws, Strict}
-use Rattle.planning.specs.Labels.{Label, earlier, first, tied, only}
+use Rattle.planning.specs.Labels.{Label, earlier}
 
 -- x is not after y
 abbrev pub NotAfter : {K : Type 0} → Algebra K → Label K → Label K → Type 0

@@ -2,7 +2,6 @@
 use mathlib.Core.Path.{_≡_, refl, sym, ap, subst, _∙_}
 use mathlib.Core.Bool.{Bool, true, false, cond}
 use mathlib.Core.List.{List, [], _∷_, _++_}
-use mathlib.Core.Logic.{_⊎_, inl, inr}
 use Prim.Native.Nat.{ℕ, zero, suc, _<_}
 use native.Mathlib.Omega.{arith}
 use native.Mathlib.Decide.{ℕ-discrete}
@@ -16,15 +15,12 @@ use Rattle.planning.specs.declared.task.Transition.{Transition}
 use Rattle.planning.specs.Costs.{Algebra, CostLaws}
 use Rattle.planning.specs.Estimates.{Estimates}
 use Rattle.planning.specs.Labels.{Label, earlier}
-use Rattle.planning.specs.Lists.{Changed}
-use Rattle.planning.specs.Search.{Memory, Same, label, takes, Recorded, Offered, offer, Tried, Swept, none, more}
+use Rattle.planning.specs.Search.{Memory, Same, label, takes, Recorded, Offered, offer, Swept, none, more}
 use Rattle.planning.specs.Task.{Model}
 use Rattle.planning.proofs.Labels.{NotAfter, not-after-self, not-after-trans, earlier-not-after}
 
 pub none-some : {X : Type 0} {x : Option X} {y : X} → x ≡ None → x ≡ Some y → ⊥
-none-some e f =
-    let z : _≡_ {A = ℕ} 0 1 = cc (e, f) in
-    omega arith
+none-some e f = grind arith
 
 nth-set-same : {X : Type 0} (xs : List X) (q : ℕ) (r y : X) → nth xs q ≡ Some r → nth (set xs q y) q ≡ Some y
 nth-set-same [] q r y e = cc

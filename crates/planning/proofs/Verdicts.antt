@@ -1,5 +1,5 @@
 -- After a start and any turns: either the invariant holds and the search goes on or is stuck, or a goal was taken.
-use mathlib.Core.Path.{_≡_, refl, sym, ap, subst, _∙_}
+use mathlib.Core.Path.{_≡_, refl, sym, _∙_}
 use mathlib.Core.Bool.{Bool, true, false}
 use mathlib.Core.List.{List, _∷_}
 use Prim.Native.Nat.{ℕ}
@@ -7,18 +7,22 @@ use native.Mathlib.Omega.{arith}
 use Rattle.std.specs.declared.option.Option.the-variants.{Some}
 use Rattle.planning.specs.declared.cost.Record.{Record}
 use Rattle.planning.specs.declared.status.Status.{Status}
-use Rattle.planning.specs.declared.status.Status.the-variants.{Open, Best, Other, Stuck, Spent}
+use Rattle.planning.specs.declared.status.Status.the-variants.{Open, Stuck}
 use Rattle.planning.specs.Costs.{Algebra, CostLaws, Strict}
 use Rattle.planning.specs.Estimates.{Estimates, Admissible}
-use Rattle.planning.specs.Lists.{Waiting, Emptied}
 use Rattle.planning.specs.Paths.{Optimal, Solvable}
 use Rattle.planning.specs.Search.{Memory, Configuration, verdictOf, label, Onward, nothing-waits, at-limit, goes-on, Turn, Runs, still, turn, Started}
 use Rattle.planning.specs.Task.{Model, TaskLaws}
 use Rattle.planning.specs.Theorem.{isVerdict, Meaning}
-use Rattle.planning.proofs.Offers.{mark, mark-from, same-memory}
-use Rattle.planning.proofs.Invariant.{Invariant, Rooted, All, Expanding, removed, expanded, started-invariant, started-rooted}
+use Rattle.planning.proofs.Offers.{mark, mark-from}
+use Rattle.planning.proofs.Invariant.{Invariant, Rooted, All, removed, expanded, started-invariant, started-rooted}
 use Rattle.planning.proofs.Frontier.{tagged-goal, untagged-goal}
 use Rattle.planning.proofs.Frontier
+
+-- a marking that a goal has closed is not open
+pub closed-not-open : (tag : Bool) → verdictOf tag ≡ Open → ⊥
+closed-not-open true e = grind arith
+closed-not-open false e = grind arith
 
 module _ {K : Type 0} (t : Model) (a : Algebra K) (h : Estimates K) (s action : ℕ) where
   -- what a goal with that tag says
@@ -33,23 +37,18 @@ module _ {K : Type 0} (t : Model) (a : Algebra K) (h : Estimates K) (s action : 
   pub optimal-solvable : Optimal t a s action → Solvable t a s
   optimal-solvable o = (action ∷ o .0, o .1, o .2 .solution)
 
-  clash : {x y : Status} → (x ≡ y → _≡_ {A = ℕ} 0 1) → x ≡ y → ⊥
-  clash f e =
-      let z = f e in
-      omega arith
-
   meaning-done : (tag : Bool) (st : Status) → st ≡ verdictOf tag → Verdict tag → Meaning t a s action st
-  meaning-done true st e v = record { best = (λ _. v, λ _. e); stuck = (λ f. absurd (let z : _≡_ {A = ℕ} 0 1 = cc (e, f) in omega arith), λ n. absurd (n (optimal-solvable v))); other = (λ f. absurd (let z : _≡_ {A = ℕ} 0 1 = cc (e, f) in omega arith), λ n. absurd (n .1 v)) }
-  meaning-done false st e v = record { best = (λ f. absurd (let z : _≡_ {A = ℕ} 0 1 = cc (e, f) in omega arith), λ o. absurd (v .1 o)); stuck = (λ f. absurd (let z : _≡_ {A = ℕ} 0 1 = cc (e, f) in omega arith), λ n. absurd (n (v .0))); other = (λ _. v, λ _. e) }
+  meaning-done true st e v = record { best = (λ _. v, λ _. e); stuck = (λ f. absurd (grind arith), λ n. absurd (n (optimal-solvable v))); other = (λ f. absurd (grind arith), λ n. absurd (n .1 v)) }
+  meaning-done false st e v = record { best = (λ f. absurd (grind arith), λ o. absurd (v .1 o)); stuck = (λ f. absurd (grind arith), λ n. absurd (n (v .0))); other = (λ _. v, λ _. e) }
 
   meaning-stuck : (Solvable t a s → ⊥) → Meaning t a s action Stuck
-  meaning-stuck n = record { best = (λ f. absurd (let z : _≡_ {A = ℕ} 0 1 = cc f in omega arith), λ o. absurd (n (optimal-solvable o))); stuck = (λ _. n, λ _. refl); other = (λ f. absurd (let z : _≡_ {A = ℕ} 0 1 = cc f in omega arith), λ v. absurd (n (v .0))) }
+  meaning-stuck n = record { best = (λ f. absurd (grind arith), λ o. absurd (n (optimal-solvable o))); stuck = (λ _. n, λ _. refl); other = (λ f. absurd (grind arith), λ v. absurd (n (v .0))) }
 
   module _ (l : CostLaws a) (strict : Strict a) (laws : TaskLaws t) where
     meaning-onward : (m : Memory K) → Admissible t a h → Invariant t a h s action (All t a h) m → Rooted t a h s action m → (n k : ℕ) (st : Status) → Onward (m .waiting) n k st → isVerdict st ≡ true → Meaning t a s action st
     meaning-onward m adm i j n k st (nothing-waits w) e = meaning-stuck (Frontier.nothing-waits t a h l strict laws adm s action m i j w)
-    meaning-onward m adm i j n k st (at-limit w b) e = absurd (let z : _≡_ {A = ℕ} 0 1 = cc e in omega arith)
-    meaning-onward m adm i j n k st (goes-on w b) e = absurd (let z : _≡_ {A = ℕ} 0 1 = cc e in omega arith)
+    meaning-onward m adm i j n k st (at-limit w b) e = grind arith
+    meaning-onward m adm i j n k st (goes-on w b) e = grind arith
 
     pub meaning : (c : Configuration K) → Stage c → Admissible t a h → isVerdict (c .numbers .status) ≡ true → Meaning t a s action (c .numbers .status)
     meaning c (going i j o) adm e = meaning-onward (c .memory) adm i j (c .numbers .turns) (c .numbers .limit) (c .numbers .status) o e
@@ -76,8 +75,7 @@ module _ {K : Type 0} (t : Model) (a : Algebra K) (h : Estimates K) (s action : 
 
     stage-turn : (d e : Configuration K) → Stage d → d .numbers .status ≡ Open → Turn t a (a .plus) h d e → Stage e
     stage-turn d e (going i j _) f o = turn-stage d e i j o
-    stage-turn d e (done true g _) f o = absurd (let z : _≡_ {A = ℕ} 0 1 = cc (f, g) in omega arith)
-    stage-turn d e (done false g _) f o = absurd (let z : _≡_ {A = ℕ} 0 1 = cc (f, g) in omega arith)
+    stage-turn d e (done tag g _) f o = absurd (closed-not-open tag (sym g ∙ f))
 
     pub started-stage : (limit : ℕ) (table : List (Record K)) (c : Configuration K) → Started t a (a .plus) h s action limit table c → Stage c
     started-stage limit table c o = going (started-invariant t a h l laws s action limit table c o) (started-rooted t a h l laws s action limit table c o) (rw (o .turns, o .limit-kept) (o .status))

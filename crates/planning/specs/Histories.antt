@@ -1,5 +1,4 @@
 -- Histories: what may have been done with a marking, and what its holder still has of the search.
-use mathlib.Core.Path.{_≡_}
 use mathlib.Core.List.{List}
 use Prim.Native.Nat.{ℕ, _+_}
 use Rattle.planning.specs.declared.cost.Record.{Record}
