@@ -5,5 +5,6 @@ pub mod Histories
 pub mod Invariant
 pub mod Labels
 pub mod Offers
+pub mod Steps
 pub mod Central
 pub mod Verdicts

@@ -1,0 +1,51 @@
+-- Ways to show the relations of the search from what code has done.
+use mathlib.Core.Path.{_≡_, refl, subst}
+use mathlib.Core.Bool.{true, false}
+use mathlib.Core.List.{List}
+use Prim.Native.Nat.{ℕ, _+_}
+use native.Mathlib.Numerals.{add-one}
+use native.Mathlib.Omega.{arith}
+use lib.ListN.{set}
+use Rattle.std.specs.Finite.{nth}
+use Rattle.std.specs.declared.option.Option.the-variants.{Some, None}
+use Rattle.planning.specs.declared.cost.Record.{Record}
+use Rattle.planning.specs.declared.status.Status.the-variants.{Open}
+use Rattle.planning.specs.declared.task.Transition.{Transition}
+use Rattle.planning.specs.Costs.{Algebra}
+use Rattle.planning.specs.Estimates.{Estimates}
+use Rattle.planning.specs.Labels.{Label}
+use Rattle.planning.specs.Lists.{Waiting, Put}
+use Rattle.planning.specs.Search.{Memory, Configuration, takes, Offered, offer, Swept, more, Turn, Runs, turn}
+use Rattle.planning.specs.Task.{Model}
+
+-- the record that a taken offer leaves
+abbrev pub recorded : {K : Type 0} → Label K → Record K
+recorded x = record { cost = x .cost; tagged = x .tagged; known = true }
+
+module _ {K : Type 0} (a : Algebra K) (sum : K → K → K) (h : Estimates K) (q : ℕ) (x : Label K) (xs : List (Record K)) (w : Waiting K) (found : Record K) (at : nth xs q ≡ Some found) where
+  pub offer-passed : takes a found x ≡ false → Offered a sum h q x (record { table = xs; waiting = w }) (record { table = xs; waiting = w })
+  offer-passed e = record { found = found; at = at; taken = λ f. absurd (grind arith); passed = λ _. record { table = refl; waiting = λ _. refl } }
+
+  pub offer-dead-end : takes a found x ≡ true → h q ≡ None → Offered a sum h q x (record { table = xs; waiting = w }) (record { table = set xs q (recorded x); waiting = w })
+  offer-dead-end e d = record { found = found; at = at; taken = λ _. record { table = refl; dead-end = λ _ _. refl; put = λ e f. absurd (grind arith) }; passed = λ f. absurd (grind arith) }
+
+  pub offer-put : (w′ : Waiting K) (e : K) → takes a found x ≡ true → h q ≡ Some e → Put w w′ q (sum (x .cost) e) (x .tagged) → Offered a sum h q x (record { table = xs; waiting = w }) (record { table = set xs q (recorded x); waiting = w′ })
+  offer-put w′ e f d p = record { found = found; at = at; taken = λ _. record { table = refl; dead-end = λ g. absurd (grind arith); put = λ k g. subst (λ k. Put w w′ q (sum (x .cost) k) (x .tagged)) (same k g) p }; passed = λ g. absurd (grind arith) }
+    where
+      same : (k : K) → h q ≡ Some k → e ≡ k
+      same k g = cc (d, g)
+
+module _ {K : Type 0} (t : Model) (a : Algebra K) (sum : K → K → K) (h : Estimates K) (p : ℕ) (r : Record K) (m : Memory K) (n : ℕ) where
+  -- an action that is not applicable
+  pub swept-idle : (d : Memory K) → Swept t a sum h p r m n d → t .transition p n ≡ None → Swept t a sum h p r m (n + 1) d
+  swept-idle d w e = rw add-one (more w (record { inapplicable = λ _. record { table = refl; waiting = λ _. refl }; applicable = λ to f. absurd (grind arith) }))
+
+  pub swept-offer : (d d′ : Memory K) (to : Transition) → Swept t a sum h p r m n d → t .transition p n ≡ Some to → Offered a sum h (to .state) (offer a sum r to) d d′ → Swept t a sum h p r m (n + 1) d′
+  swept-offer d d′ to w e o = rw add-one (more w (record { inapplicable = λ f. absurd (grind arith); applicable = λ at f. subst (λ at. Offered a sum h (at .state) (offer a sum r at) d d′) (same at f) o }))
+    where
+      same : (at : Transition) → t .transition p n ≡ Some at → to ≡ at
+      same at f = cc (e, f)
+
+module _ {K : Type 0} (t : Model) (a : Algebra K) (sum : K → K → K) (h : Estimates K) (c : Configuration K) (k : ℕ) where
+  pub runs-more : (d e : Configuration K) → Runs t a sum h c k d → d .numbers .status ≡ Open → Turn t a sum h d e → Runs t a sum h c (k + 1) e
+  runs-more d e runs f o = rw add-one (turn runs f o)
