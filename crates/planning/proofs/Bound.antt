@@ -176,7 +176,7 @@ module _ {K : Type 0} (t : Model) (a : Algebra K) (h : Estimates K) where
           waiting p x f (yes j) = absurd (none-some (ap (o .rest .waiting) j ∙ o .removed .here) f)
           waiting p x f (no j) = o .first .least p x (sym (o .removed .others p j) ∙ f)
 
-      later : (n : ℕ) (to : Transition) → t .transition (o .state) n ≡ Some to → (e : K) → h (to .state) ≡ Some e → NotAfter a (o .entry) (shift a (offer a (a .plus) (o .found) to) e)
+      later : (n : ℕ) (to : Transition) → t .transition (o .state) n ≡ Some to → (e : K) → h (to .state) ≡ Some e → NotAfter a (o .entry) (shift a (offer a (a .plus) y to) e)
       later n to f e g =
           let low = consistent (o .state) n to f e g in
           subst₂ (NotAfter a) (front (low .0) (low .1)) (sym (shift-shift a l y (a .charge (to .coins)) e)) (shift-front a l y (low .0) (a .plus (a .charge (to .coins)) e) (low .2))
@@ -185,9 +185,9 @@ module _ {K : Type 0} (t : Model) (a : Algebra K) (h : Estimates K) where
       abbrev Sweeping : ℕ → Memory K → Type 0
       Sweeping n m = Split (o .entry) m × (left (t .states) m ≤ left (t .states) (o .rest))
 
-      sweeping : (n : ℕ) (m m′ : Memory K) (to : Transition) → t .transition (o .state) n ≡ Some to → Offered a (a .plus) h (to .state) (offer a (a .plus) (o .found) to) m m′ → Sweeping n m → Sweeping (suc n) m′
+      sweeping : (n : ℕ) (m m′ : Memory K) (to : Transition) → t .transition (o .state) n ≡ Some to → Offered a (a .plus) h (to .state) (offer a (a .plus) y to) m m′ → Sweeping n m → Sweeping (suc n) m′
       sweeping n m m′ to f k j =
-          let x = offer a (a .plus) (o .found) to in
+          let x = offer a (a .plus) y to in
           let less = offer-left l strict (o .entry) (to .state) x m m′ (later n to f) k (j .0) in
           (offer-split l strict (o .entry) (to .state) x m m′ (later n to f) k (j .0), omega (arith, less, j .1))
 
@@ -200,7 +200,7 @@ module _ {K : Type 0} (t : Model) (a : Algebra K) (h : Estimates K) where
           go : (b : Bool) → t .goal (o .state) ≡ b → Few e
           go true g = record { few = subst (λ m. e .numbers .turns + left (t .states) m ≤ t .states) (sym (same-memory (o .rest) (e .memory) (o .closes g .memory))) (omega (arith, rest-left, few .few, o .counted .turns)); sorted = λ f. absurd (closed-not-open (o .found .tagged) (sym (o .closes g .status) ∙ f)) }
           go false g =
-              let end = along-sweep t a (a .plus) h (o .state) (o .found) (o .rest) Sweeping (rest-split, le-refl _) (λ n d _ j. j) sweeping (t .actions) (e .memory) (o .expands g .swept) in
+              let end = along-sweep t a (a .plus) h (o .state) y (o .rest) Sweeping (rest-split, le-refl _) (λ n d _ j. j) sweeping (t .actions) (e .memory) (o .expands g .swept) in
               record { few = omega (arith, end .1, rest-left, few .few, o .counted .turns); sorted = λ _. sorted-from (e .memory) (end .0) }
 
   -- at the start no known state is closed

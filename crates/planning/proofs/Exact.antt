@@ -50,35 +50,35 @@ module _ {K : Type 0} (t : Model) (a : Algebra K) (h : Estimates K) (l : CostLaw
           subst (λ y. a .size (y .cost) ≤ b) same small
 
   -- what one action offers by computed sums is what it offers by exact ones
-  offer-same : (b : ℕ) (r : Record K) (p n : ℕ) (to : Transition) → a .size (r .cost) + 1000000 ≤ b → Small b → t .transition p n ≡ Some to → (offer a (a .computed) r to ≡ offer a (a .plus) r to) × (a .size (offer a (a .plus) r to .cost) ≤ b)
-  offer-same b r p n to small room e =
+  offer-same : (b : ℕ) (y : Label K) (p n : ℕ) (to : Transition) → a .size (y .cost) + 1000000 ≤ b → Small b → t .transition p n ≡ Some to → (offer a (a .computed) y to ≡ offer a (a .plus) y to) × (a .size (offer a (a .plus) y to .cost) ≤ b)
+  offer-same b y p n to small room e =
       let coins = l .size-charge (to .coins) (laws .step p n to e .coins) in
-      let sum = l .size-plus (r .cost) (a .charge (to .coins)) in
-      (ap {B = Label K} (λ k. record { cost = k; tagged = r .tagged }) (l .exact (r .cost) (a .charge (to .coins)) (omega arith)), omega arith)
+      let sum = l .size-plus (y .cost) (a .charge (to .coins)) in
+      (ap {B = Label K} (λ k. record { cost = k; tagged = y .tagged }) (l .exact (y .cost) (a .charge (to .coins)) (omega arith)), omega arith)
 
-  module _ (b p : ℕ) (r : Record K) (m : Memory K) (small : a .size (r .cost) + 1000000 ≤ b) (room : Small b) where
+  module _ (b p : ℕ) (y : Label K) (m : Memory K) (small : a .size (y .cost) + 1000000 ≤ b) (room : Small b) where
     abbrev Sweeping : ℕ → Memory K → Type 0
-    Sweeping n d = Swept t a (a .plus) h p r m n d × Sized b d
+    Sweeping n d = Swept t a (a .plus) h p y m n d × Sized b d
 
     idle : (n : ℕ) (d : Memory K) → t .transition p n ≡ None → Sweeping n d → Sweeping (suc n) d
     idle n d e i = (more (i .0) (record { inapplicable = λ _. record { table = refl; waiting = λ _. refl }; applicable = λ to f. absurd (none-some e f) }), i .1)
 
-    sweeping : (n : ℕ) (d d′ : Memory K) (to : Transition) → t .transition p n ≡ Some to → Offered a (a .computed) h (to .state) (offer a (a .computed) r to) d d′ → Sweeping n d → Sweeping (suc n) d′
-    sweeping n d d′ to e o i = (more (i .0) (record { inapplicable = λ f. absurd (none-some f e); applicable = applicable }), offer-sized b (to .state) (offer a (a .plus) r to) d d′ (same .1) exact (i .1))
+    sweeping : (n : ℕ) (d d′ : Memory K) (to : Transition) → t .transition p n ≡ Some to → Offered a (a .computed) h (to .state) (offer a (a .computed) y to) d d′ → Sweeping n d → Sweeping (suc n) d′
+    sweeping n d d′ to e o i = (more (i .0) (record { inapplicable = λ f. absurd (none-some f e); applicable = applicable }), offer-sized b (to .state) (offer a (a .plus) y to) d d′ (same .1) exact (i .1))
       where
-        same : (offer a (a .computed) r to ≡ offer a (a .plus) r to) × (a .size (offer a (a .plus) r to .cost) ≤ b)
-        same = offer-same b r p n to small room e
+        same : (offer a (a .computed) y to ≡ offer a (a .plus) y to) × (a .size (offer a (a .plus) y to .cost) ≤ b)
+        same = offer-same b y p n to small room e
 
-        exact : Offered a (a .plus) h (to .state) (offer a (a .plus) r to) d d′
-        exact = offer-exact b (to .state) (offer a (a .plus) r to) d d′ (same .1) room (subst (λ x. Offered a (a .computed) h (to .state) x d d′) (same .0) o)
+        exact : Offered a (a .plus) h (to .state) (offer a (a .plus) y to) d d′
+        exact = offer-exact b (to .state) (offer a (a .plus) y to) d d′ (same .1) room (subst (λ x. Offered a (a .computed) h (to .state) x d d′) (same .0) o)
 
-        applicable : (at : Transition) → t .transition p n ≡ Some at → Offered a (a .plus) h (at .state) (offer a (a .plus) r at) d d′
+        applicable : (at : Transition) → t .transition p n ≡ Some at → Offered a (a .plus) h (at .state) (offer a (a .plus) y at) d d′
         applicable at f =
             let this : to ≡ at = cc (e, f) in
-            subst (λ at. Offered a (a .plus) h (at .state) (offer a (a .plus) r at) d d′) this exact
+            subst (λ at. Offered a (a .plus) h (at .state) (offer a (a .plus) y at) d d′) this exact
 
-    sweep-exact : (n : ℕ) (d : Memory K) → Sized b m → Swept t a (a .computed) h p r m n d → Sweeping n d
-    sweep-exact n d i w = along-sweep t a (a .computed) h p r m Sweeping (none, i) idle sweeping n d w
+    sweep-exact : (n : ℕ) (d : Memory K) → Sized b m → Swept t a (a .computed) h p y m n d → Sweeping n d
+    sweep-exact n d i w = along-sweep t a (a .computed) h p y m Sweeping (none, i) idle sweeping n d w
 
   -- the size of costs after n turns
   abbrev pub after : ℕ → ℕ
@@ -95,8 +95,8 @@ module _ {K : Type 0} (t : Model) (a : Algebra K) (h : Estimates K) (l : CostLaw
         let low = i p y b (ap (λ z. known (nth z p)) (sym (o .table)) ∙ f) in
         omega arith
 
-    swept : t .goal (o .state) ≡ false → Swept t a (a .plus) h (o .state) (o .found) (o .rest) (t .actions) (e .memory) × Sized (after (suc n)) (e .memory)
-    swept g = sweep-exact (after (suc n)) (o .state) (o .found) (o .rest) small (omega arith) (t .actions) (e .memory) rest-sized (o .expands g .swept)
+    swept : t .goal (o .state) ≡ false → Swept t a (a .plus) h (o .state) (label (o .found)) (o .rest) (t .actions) (e .memory) × Sized (after (suc n)) (e .memory)
+    swept g = sweep-exact (after (suc n)) (o .state) (label (o .found)) (o .rest) small (omega arith) (t .actions) (e .memory) rest-sized (o .expands g .swept)
 
     pub turn-exact : Turn t a (a .plus) h d e
     turn-exact = record { state = o .state; entry = o .entry; first = o .first; within = o .within; found = o .found; at = o .at; known = o .known; rest = o .rest; table = o .table; removed = o .removed; closes = o .closes; expands = λ g. record { swept = swept g .0; status = o .expands g .status }; counted = o .counted }

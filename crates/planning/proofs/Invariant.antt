@@ -104,63 +104,63 @@ module _ {K : Type 0} (t : Model) (a : Algebra K) (h : Estimates K) where
   abbrev pub All : ℕ → ℕ → Type 0
   All q b = Unit {0}
 
-  -- while p is expanded with the record r: if p does not wait, its label is r's
-  pub record Expanding (s action p : ℕ) (r : Record K) (n : ℕ) (m : Memory K) : Type 0 where
+  -- while p is expanded with the label x: if p does not wait, that is its label
+  pub record Expanding (s action p : ℕ) (x : Label K) (n : ℕ) (m : Memory K) : Type 0 where
     pub invariant : Invariant s action (Below p n) m
     pub rooted : Rooted s action m
-    pub unchanged : m .waiting p ≡ None → mark m p ≡ Some (label r)
+    pub unchanged : m .waiting p ≡ None → mark m p ≡ Some x
 
   -- what is paid for one more action of p
-  settled-more : (p : ℕ) (r : Record K) (n : ℕ) (m : Memory K) → ((to : Transition) → t .transition p n ≡ Some to → Covered a m (to .state) (shift a (label r) (a .charge (to .coins)))) → (q : ℕ) (y : Label K) → (q ≡ p → y ≡ label r) → Settled (Below p n) m q y → Settled (Below p (suc n)) m q y
-  settled-more p r n m new q y same old = record { no-goal = old .no-goal; offered = λ b to paid e. go b to paid e (ℕ-discrete q p) (ℕ-discrete b n) }
+  settled-more : (p : ℕ) (x : Label K) (n : ℕ) (m : Memory K) → ((to : Transition) → t .transition p n ≡ Some to → Covered a m (to .state) (shift a x (a .charge (to .coins)))) → (q : ℕ) (y : Label K) → (q ≡ p → y ≡ x) → Settled (Below p n) m q y → Settled (Below p (suc n)) m q y
+  settled-more p x n m new q y same old = record { no-goal = old .no-goal; offered = λ b to paid e. go b to paid e (ℕ-discrete q p) (ℕ-discrete b n) }
     where
       go : (b : ℕ) (to : Transition) → (q ≡ p → b < suc n) → t .transition q b ≡ Some to → Dec (q ≡ p) → Dec (b ≡ n) → Covered a m (to .state) (shift a y (a .charge (to .coins)))
       go b to paid e (no d) f = old .offered b to (λ g. absurd (d g)) e
       go b to paid e (yes g) (no f) = old .offered b to (λ _. let c = paid g in omega arith) e
       go b to paid e (yes g) (yes f) = subst (λ y. Covered a m (to .state) (shift a y (a .charge (to .coins)))) (sym (same g)) (new to (cc (e, g, f)))
 
-  expanding-more : (s action p : ℕ) (r : Record K) (n : ℕ) (m : Memory K) → ((to : Transition) → t .transition p n ≡ Some to → Covered a m (to .state) (shift a (label r) (a .charge (to .coins)))) → Expanding s action p r n m → Expanding s action p r (suc n) m
-  expanding-more s action p r n m new i = record { invariant = record { ways = i .invariant .ways; entries = i .invariant .entries; settled = settled }; rooted = i .rooted; unchanged = i .unchanged }
+  expanding-more : (s action p : ℕ) (x : Label K) (n : ℕ) (m : Memory K) → ((to : Transition) → t .transition p n ≡ Some to → Covered a m (to .state) (shift a x (a .charge (to .coins)))) → Expanding s action p x n m → Expanding s action p x (suc n) m
+  expanding-more s action p x n m new i = record { invariant = record { ways = i .invariant .ways; entries = i .invariant .entries; settled = settled }; rooted = i .rooted; unchanged = i .unchanged }
     where
       settled : (q : ℕ) (y : Label K) (e : K) → q < t .states → mark m q ≡ Some y → m .waiting q ≡ None → h q ≡ Some e → Settled (Below p (suc n)) m q y
-      settled q y e b f w d = settled-more p r n m new q y same (i .invariant .settled q y e b f w d)
+      settled q y e b f w d = settled-more p x n m new q y same (i .invariant .settled q y e b f w d)
         where
-          same : q ≡ p → y ≡ label r
+          same : q ≡ p → y ≡ x
           same g =
               let here = i .unchanged (subst (λ q. m .waiting q ≡ None) g w) in
               cc (f, here, g)
 
-  module _ (l : CostLaws a) (laws : TaskLaws t) (s action p : ℕ) (r : Record K) (e : K) (estimated : h p ≡ Some e) (way : Way t a s action p (label r)) where
-    expanding-offer : (n : ℕ) (m m′ : Memory K) (to : Transition) → t .transition p n ≡ Some to → Offered a (a .plus) h (to .state) (offer a (a .plus) r to) m m′ → Expanding s action p r n m → Expanding s action p r (suc n) m′
-    expanding-offer n m m′ to f o i = expanding-more s action p r n m′ new (record { invariant = offer-keeps l s action (to .state) x m m′ (laws .step p n to f .into) (way-more t a l s action p n (label r) to way f) o (Below p n) (i .invariant); rooted = offer-rooted l s action (to .state) x m m′ (laws .step p n to f .into) (way-more t a l s action p n (label r) to way f) o (i .rooted); unchanged = unchanged (each a (a .plus) h (to .state) x m m′ o p) })
+  module _ (l : CostLaws a) (laws : TaskLaws t) (s action p : ℕ) (x : Label K) (e : K) (estimated : h p ≡ Some e) (way : Way t a s action p x) where
+    expanding-offer : (n : ℕ) (m m′ : Memory K) (to : Transition) → t .transition p n ≡ Some to → Offered a (a .plus) h (to .state) (offer a (a .plus) x to) m m′ → Expanding s action p x n m → Expanding s action p x (suc n) m′
+    expanding-offer n m m′ to f o i = expanding-more s action p x n m′ new (record { invariant = offer-keeps l s action (to .state) z m m′ (laws .step p n to f .into) (way-more t a l s action p n x to way f) o (Below p n) (i .invariant); rooted = offer-rooted l s action (to .state) z m m′ (laws .step p n to f .into) (way-more t a l s action p n x to way f) o (i .rooted); unchanged = unchanged (each a (a .plus) h (to .state) z m m′ o p) })
       where
-        x : Label K
-        x = offer a (a .plus) r to
+        z : Label K
+        z = offer a (a .plus) x to
 
-        new : (at : Transition) → t .transition p n ≡ Some at → Covered a m′ (at .state) (shift a (label r) (a .charge (at .coins)))
+        new : (at : Transition) → t .transition p n ≡ Some at → Covered a m′ (at .state) (shift a x (a .charge (at .coins)))
         new at g =
             let same : to ≡ at = cc (f, g) in
-            subst (λ at. Covered a m′ (at .state) (shift a (label r) (a .charge (at .coins)))) same (covers a (a .plus) h (to .state) x m m′ l o)
+            subst (λ at. Covered a m′ (at .state) (shift a x (a .charge (at .coins)))) same (covers a (a .plus) h (to .state) z m m′ l o)
 
-        unchanged : Each a (a .plus) h (to .state) x m m′ p → m′ .waiting p ≡ None → mark m′ p ≡ Some (label r)
+        unchanged : Each a (a .plus) h (to .state) z m m′ p → m′ .waiting p ≡ None → mark m′ p ≡ Some x
         unchanged (as-was k w) g = k ∙ i .unchanged (sym w ∙ g)
         unchanged (took here new) g = cc (g, new .put e estimated)
 
     -- the whole sweep
-    pub expanded : (m m′ : Memory K) → Swept t a (a .plus) h p r m (t .actions) m′ → Expanding s action p r zero m → Invariant s action All m′ × Rooted s action m′
+    pub expanded : (m m′ : Memory K) → Swept t a (a .plus) h p x m (t .actions) m′ → Expanding s action p x zero m → Invariant s action All m′ × Rooted s action m′
     expanded m m′ w i = (record { ways = end .invariant .ways; entries = end .invariant .entries; settled = λ q y e b f w d. all q y (end .invariant .settled q y e b f w d) }, end .rooted)
       where
-        idle : (n : ℕ) (d : Memory K) → t .transition p n ≡ None → Expanding s action p r n d → Expanding s action p r (suc n) d
-        idle n d f i = expanding-more s action p r n d (λ to g. absurd (none-some f g)) i
+        idle : (n : ℕ) (d : Memory K) → t .transition p n ≡ None → Expanding s action p x n d → Expanding s action p x (suc n) d
+        idle n d f i = expanding-more s action p x n d (λ to g. absurd (none-some f g)) i
 
-        end : Expanding s action p r (t .actions) m′
-        end = along-sweep t a (a .plus) h p r m (Expanding s action p r) i idle expanding-offer (t .actions) m′ w
+        end : Expanding s action p x (t .actions) m′
+        end = along-sweep t a (a .plus) h p x m (Expanding s action p x) i idle expanding-offer (t .actions) m′ w
 
         all : (q : ℕ) (y : Label K) → Settled (Below p (t .actions)) m′ q y → Settled All m′ q y
         all q y s = record { no-goal = s .no-goal; offered = λ b to _ f. s .offered b to (λ _. laws .step q b to f .by) f }
 
   -- the state whose entry is removed is the one to expand, if it is no goal
-  pub removed : (s action p : ℕ) (r : Record K) (m rest : Memory K) → nth (m .table) p ≡ Some r → r .known ≡ true → t .goal p ≡ false → rest .table ≡ m .table → Changed (m .waiting) (rest .waiting) p None → Invariant s action All m → Rooted s action m → Expanding s action p r zero rest
+  pub removed : (s action p : ℕ) (r : Record K) (m rest : Memory K) → nth (m .table) p ≡ Some r → r .known ≡ true → t .goal p ≡ false → rest .table ≡ m .table → Changed (m .waiting) (rest .waiting) p None → Invariant s action All m → Rooted s action m → Expanding s action p (label r) zero rest
   removed s action p r m rest at isKnown no-goal table change i j = record { invariant = record { ways = λ q y b e. i .ways q y b (sym (marks q) ∙ e); entries = λ q z e. entries q z e (ℕ-discrete q p); settled = λ q y e b f w d. settled q y e b f w d (ℕ-discrete q p) }; rooted = record { root = covered s (record { cost = a .zero; tagged = false }) (j .root); branch = λ to e. covered (to .state) (record { cost = a .charge (to .coins); tagged = true }) (j .branch to e) }; unchanged = λ _. marks p ∙ mark-from m p r at isKnown }
     where
       marks : (q : ℕ) → mark rest q ≡ mark m q

@@ -117,8 +117,8 @@ module _ {K : Type 0} (a : Algebra K) (sum : K → K → K) (h : Estimates K) (q
         record { label = better .label; is = better .is; not-after = not-after-trans a l (better .label) (c .label) y (better .not-after) (c .not-after) }
 
 -- what each attempt of a sweep keeps, the sweep keeps
-module _ {K : Type 0} (t : Model) (a : Algebra K) (sum : K → K → K) (h : Estimates K) (p : ℕ) (r : Record K) (m : Memory K) (I : ℕ → Memory K → Type 0) where
-  pub along-sweep : I zero m → ((n : ℕ) (d : Memory K) → t .transition p n ≡ None → I n d → I (suc n) d) → ((n : ℕ) (d e : Memory K) (to : Transition) → t .transition p n ≡ Some to → Offered a sum h (to .state) (offer a sum r to) d e → I n d → I (suc n) e) → (n : ℕ) (m′ : Memory K) → Swept t a sum h p r m n m′ → I n m′
+module _ {K : Type 0} (t : Model) (a : Algebra K) (sum : K → K → K) (h : Estimates K) (p : ℕ) (y : Label K) (m : Memory K) (I : ℕ → Memory K → Type 0) where
+  pub along-sweep : I zero m → ((n : ℕ) (d : Memory K) → t .transition p n ≡ None → I n d → I (suc n) d) → ((n : ℕ) (d e : Memory K) (to : Transition) → t .transition p n ≡ Some to → Offered a sum h (to .state) (offer a sum y to) d e → I n d → I (suc n) e) → (n : ℕ) (m′ : Memory K) → Swept t a sum h p y m n m′ → I n m′
   along-sweep base idle step zero m′ none = base
   along-sweep base idle step (suc n) m′ (more {m′ = d} w o) = go (t .transition p n) refl (along-sweep base idle step n d w)
     where

@@ -35,13 +35,13 @@ module _ {K : Type 0} (a : Algebra K) (sum : K → K → K) (h : Estimates K) (q
       same : (k : K) → h q ≡ Some k → e ≡ k
       same k g = cc (d, g)
 
-module _ {K : Type 0} (t : Model) (a : Algebra K) (sum : K → K → K) (h : Estimates K) (p : ℕ) (r : Record K) (m : Memory K) (n : ℕ) where
+module _ {K : Type 0} (t : Model) (a : Algebra K) (sum : K → K → K) (h : Estimates K) (p : ℕ) (y : Label K) (m : Memory K) (n : ℕ) where
   -- an action that is not applicable
-  pub swept-idle : (d : Memory K) → Swept t a sum h p r m n d → t .transition p n ≡ None → Swept t a sum h p r m (n + 1) d
+  pub swept-idle : (d : Memory K) → Swept t a sum h p y m n d → t .transition p n ≡ None → Swept t a sum h p y m (n + 1) d
   swept-idle d w e = rw add-one (more w (record { inapplicable = λ _. record { table = refl; waiting = λ _. refl }; applicable = λ to f. absurd (grind arith) }))
 
-  pub swept-offer : (d d′ : Memory K) (to : Transition) → Swept t a sum h p r m n d → t .transition p n ≡ Some to → Offered a sum h (to .state) (offer a sum r to) d d′ → Swept t a sum h p r m (n + 1) d′
-  swept-offer d d′ to w e o = rw add-one (more w (record { inapplicable = λ f. absurd (grind arith); applicable = λ at f. subst (λ at. Offered a sum h (at .state) (offer a sum r at) d d′) (same at f) o }))
+  pub swept-offer : (d d′ : Memory K) (to : Transition) → Swept t a sum h p y m n d → t .transition p n ≡ Some to → Offered a sum h (to .state) (offer a sum y to) d d′ → Swept t a sum h p y m (n + 1) d′
+  swept-offer d d′ to w e o = rw add-one (more w (record { inapplicable = λ f. absurd (grind arith); applicable = λ at f. subst (λ at. Offered a sum h (at .state) (offer a sum y at) d d′) (same at f) o }))
     where
       same : (at : Transition) → t .transition p n ≡ Some at → to ≡ at
       same at f = cc (e, f)

@@ -70,7 +70,7 @@ module _ {K : Type 0} (t : Model) (a : Algebra K) (h : Estimates K) (s action : 
             let entered = i .entries (o .state) (o .entry) (o .first .waits) in
             let way = i .ways (o .state) (label (o .found)) (o .within) is in
             let start = removed t a h s action (o .state) (o .found) (d .memory) (o .rest) (o .at) (o .known) g (o .table) (o .removed) i j in
-            let end = expanded t a h l laws s action (o .state) (o .found) (entered .estimate) (entered .estimated) way (o .rest) (e .memory) (o .expands g .swept) start in
+            let end = expanded t a h l laws s action (o .state) (label (o .found)) (entered .estimate) (entered .estimated) way (o .rest) (e .memory) (o .expands g .swept) start in
             going (end .0) (end .1) (o .expands g .status)
 
     stage-turn : (d e : Configuration K) → Stage d → d .numbers .status ≡ Open → Turn t a (a .plus) h d e → Stage e

@@ -59,19 +59,19 @@ pub record Offered {K : Type 0} (a : Algebra K) (sum : K → K → K) (h : Estim
   pub taken : takes a found x ≡ true → Recorded sum h q x m m′
   pub passed : takes a found x ≡ false → Same m m′
 
--- what a state with the record r offers to where an action leads: its cost plus the charge, and its tag
-abbrev pub offer : {K : Type 0} → Algebra K → (K → K → K) → Record K → Transition → Label K
-offer a sum r to = record { cost = sum (r .cost) (a .charge (to .coins)); tagged = r .tagged }
+-- what a state with the label y offers to where an action leads: its cost plus the charge, and its tag
+abbrev pub offer : {K : Type 0} → Algebra K → (K → K → K) → Label K → Transition → Label K
+offer a sum y to = record { cost = sum (y .cost) (a .charge (to .coins)); tagged = y .tagged }
 
--- state p, with the record r, offers by one action; where that is not applicable, nothing changes
-pub record Tried {K : Type 0} (t : Model) (a : Algebra K) (sum : K → K → K) (h : Estimates K) (p : ℕ) (r : Record K) (action : ℕ) (m m′ : Memory K) : Type 0 where
+-- state p, with the label y, offers by one action; where that is not applicable, nothing changes
+pub record Tried {K : Type 0} (t : Model) (a : Algebra K) (sum : K → K → K) (h : Estimates K) (p : ℕ) (y : Label K) (action : ℕ) (m m′ : Memory K) : Type 0 where
   pub inapplicable : t .transition p action ≡ None → Same m m′
-  pub applicable : (to : Transition) → t .transition p action ≡ Some to → Offered a sum h (to .state) (offer a sum r to) m m′
+  pub applicable : (to : Transition) → t .transition p action ≡ Some to → Offered a sum h (to .state) (offer a sum y to) m m′
 
--- state p, with the record r, has offered by each action below a number, in rising order
-pub data Swept {K : Type 0} (t : Model) (a : Algebra K) (sum : K → K → K) (h : Estimates K) (p : ℕ) (r : Record K) (m : Memory K) : ℕ → Memory K → Type 0 where
-  none : Swept t a sum h p r m zero m
-  more : {n : ℕ} {m′ m″ : Memory K} → Swept t a sum h p r m n m′ → Tried t a sum h p r n m′ m″ → Swept t a sum h p r m (suc n) m″
+-- state p, with the label y, has offered by each action below a number, in rising order
+pub data Swept {K : Type 0} (t : Model) (a : Algebra K) (sum : K → K → K) (h : Estimates K) (p : ℕ) (y : Label K) (m : Memory K) : ℕ → Memory K → Type 0 where
+  none : Swept t a sum h p y m zero m
+  more : {n : ℕ} {m′ m″ : Memory K} → Swept t a sum h p y m n m′ → Tried t a sum h p y n m′ m″ → Swept t a sum h p y m (suc n) m″
 
 -- some entry waits
 pub record Waits {K : Type 0} (w : Waiting K) : Type 0 where
@@ -102,9 +102,9 @@ pub record Closed {K : Type 0} (r : Record K) (m : Memory K) (c : Configuration 
   pub memory : Same m (c .memory)
   pub status : c .numbers .status ≡ verdictOf (r .tagged)
 
--- state p, with the record r, has offered by every action
-pub record Expanded {K : Type 0} (t : Model) (a : Algebra K) (sum : K → K → K) (h : Estimates K) (p : ℕ) (r : Record K) (m : Memory K) (c : Configuration K) : Type 0 where
-  pub swept : Swept t a sum h p r m (t .actions) (c .memory)
+-- state p, with the label y, has offered by every action
+pub record Expanded {K : Type 0} (t : Model) (a : Algebra K) (sum : K → K → K) (h : Estimates K) (p : ℕ) (y : Label K) (m : Memory K) (c : Configuration K) : Type 0 where
+  pub swept : Swept t a sum h p y m (t .actions) (c .memory)
   pub status : Onward (c .memory .waiting) (c .numbers .turns) (c .numbers .limit) (c .numbers .status)
 
 -- a first entry is removed, of a state of the task that is known; then the search ends there, or the state is expanded
@@ -121,7 +121,7 @@ pub record Turn {K : Type 0} (t : Model) (a : Algebra K) (sum : K → K → K) (
   pub table : rest .table ≡ c .memory .table
   pub removed : Changed (c .memory .waiting) (rest .waiting) state None
   pub closes : t .goal state ≡ true → Closed found rest c′
-  pub expands : t .goal state ≡ false → Expanded t a sum h state found rest c′
+  pub expands : t .goal state ≡ false → Expanded t a sum h state (label found) rest c′
   pub counted : Counted (c .numbers) (c′ .numbers)
 
 -- turns in a row, each from an open configuration
