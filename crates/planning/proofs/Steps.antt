@@ -35,17 +35,23 @@ module _ {K : Type 0} (a : Algebra K) (sum : K → K → K) (h : Estimates K) (q
       same : (k : K) → h q ≡ Some k → e ≡ k
       same k g = cc (d, g)
 
-module _ {K : Type 0} (t : Model) (a : Algebra K) (sum : K → K → K) (h : Estimates K) (p : ℕ) (y : Label K) (m : Memory K) (n : ℕ) where
+module _ {K : Type 0} {t : Model} {a : Algebra K} {sum : K → K → K} {h : Estimates K} {p : ℕ} {y : Label K} {m : Memory K} {n : ℕ} {d : Memory K} where
   -- an action that is not applicable
-  pub swept-idle : (d : Memory K) → Swept t a sum h p y m n d → t .transition p n ≡ None → Swept t a sum h p y m (n + 1) d
-  swept-idle d w e = rw add-one (more w (record { inapplicable = λ _. record { table = refl; waiting = λ _. refl }; applicable = λ to f. absurd (grind arith) }))
+  pub swept-idle : Swept t a sum h p y m n d → t .transition p n ≡ None → Swept t a sum h p y m (n + 1) d
+  swept-idle w e = rw add-one (more w (record { inapplicable = λ _. record { table = refl; waiting = λ _. refl }; applicable = λ to f. absurd (grind arith) }))
 
-  pub swept-offer : (d d′ : Memory K) (to : Transition) → Swept t a sum h p y m n d → t .transition p n ≡ Some to → Offered a sum h (to .state) (offer a sum y to) d d′ → Swept t a sum h p y m (n + 1) d′
-  swept-offer d d′ to w e o = rw add-one (more w (record { inapplicable = λ f. absurd (grind arith); applicable = λ at f. subst (λ at. Offered a sum h (at .state) (offer a sum y at) d d′) (same at f) o }))
+  pub swept-offer : {d′ : Memory K} (to : Transition) (x : Label K) → Swept t a sum h p y m n d → t .transition p n ≡ Some to → x ≡ offer a sum y to → Offered a sum h (to .state) x d d′ → Swept t a sum h p y m (n + 1) d′
+  swept-offer {d′ = d′} to x w e f o = rw add-one (more w (record { inapplicable = λ g. absurd (grind arith); applicable = λ at g. subst (λ at. Offered a sum h (at .state) (offer a sum y at) d d′) (same at g) (subst (λ x. Offered a sum h (to .state) x d d′) f o) }))
     where
       same : (at : Transition) → t .transition p n ≡ Some at → to ≡ at
-      same at f = cc (e, f)
+      same at g = cc (e, g)
 
-module _ {K : Type 0} (t : Model) (a : Algebra K) (sum : K → K → K) (h : Estimates K) (c : Configuration K) (k : ℕ) where
-  pub runs-more : (d e : Configuration K) → Runs t a sum h c k d → d .numbers .status ≡ Open → Turn t a sum h d e → Runs t a sum h c (k + 1) e
-  runs-more d e runs f o = rw add-one (turn runs f o)
+  pub swept-to : {k : ℕ} → n ≡ k → Swept t a sum h p y m n d → Swept t a sum h p y m k d
+  swept-to e w = subst (λ n. Swept t a sum h p y m n d) e w
+
+module _ {K : Type 0} {t : Model} {a : Algebra K} {sum : K → K → K} {h : Estimates K} {c : Configuration K} {k : ℕ} {d : Configuration K} where
+  pub runs-more : {e : Configuration K} → Runs t a sum h c k d → d .numbers .status ≡ Open → Turn t a sum h d e → Runs t a sum h c (k + 1) e
+  runs-more runs f o = rw add-one (turn runs f o)
+
+  pub runs-to : {j : ℕ} → k ≡ j → Runs t a sum h c k d → Runs t a sum h c j d
+  runs-to e runs = subst (λ n. Runs t a sum h c n d) e runs
