@@ -1,11 +1,11 @@
 -- Ways to show the relations of the search from what code has done.
-use mathlib.Core.Path.{_≡_, refl, subst}
+use mathlib.Core.Path.{_≡_, refl, ap, subst}
 use mathlib.Core.Bool.{true, false}
-use mathlib.Core.List.{List}
-use Prim.Native.Nat.{ℕ, _+_}
+use mathlib.Core.List.{List, [], _∷_}
+use Prim.Native.Nat.{ℕ, zero, suc, _+_, _≤_, _<_}
 use native.Mathlib.Numerals.{add-one}
 use native.Mathlib.Omega.{arith}
-use lib.ListN.{set}
+use lib.ListN.{length, set}
 use Rattle.std.specs.Finite.{nth}
 use Rattle.std.specs.declared.option.Option.the-variants.{Some, None}
 use Rattle.planning.specs.declared.cost.Record.{Record}
@@ -15,7 +15,7 @@ use Rattle.planning.specs.Costs.{Algebra}
 use Rattle.planning.specs.Estimates.{Estimates}
 use Rattle.planning.specs.Labels.{Label}
 use Rattle.planning.specs.Lists.{Waiting, Put}
-use Rattle.planning.specs.Search.{Memory, Configuration, takes, Offered, offer, Swept, more, Turn, Runs, turn}
+use Rattle.planning.specs.Search.{Memory, Configuration, blank, cleared, takes, Offered, offer, Swept, more, Turn, Runs, turn}
 use Rattle.planning.specs.Task.{Model}
 
 -- the record that a taken offer leaves
@@ -55,3 +55,18 @@ module _ {K : Type 0} {t : Model} {a : Algebra K} {sum : K → K → K} {h : Est
 
   pub runs-to : {j : ℕ} → k ≡ j → Runs t a sum h c k d → Runs t a sum h c j d
   runs-to e runs = subst (λ n. Runs t a sum h c n d) e runs
+
+module _ {K : Type 0} (a : Algebra K) where
+  cleared-suc : (i : ℕ) (xs : List (Record K)) → i < length xs → set (cleared a i xs) i (blank a) ≡ cleared a (suc i) xs
+  cleared-suc i [] b = absurd (omega arith)
+  cleared-suc zero (x ∷ xs) b = refl
+  cleared-suc (suc i) (x ∷ xs) b = ap {B = List (Record K)} (λ z. blank a ∷ z) (cleared-suc i xs (omega arith))
+
+  -- one more record made blank
+  pub cleared-more : (i : ℕ) (xs : List (Record K)) → i < length xs → set (cleared a i xs) i (blank a) ≡ cleared a (i + 1) xs
+  cleared-more i xs b = rw add-one (cleared-suc i xs b)
+
+  pub length-cleared : (i : ℕ) (xs : List (Record K)) → i ≤ length xs → length (cleared a i xs) ≡ length xs
+  length-cleared zero xs b = refl
+  length-cleared (suc i) [] b = absurd (omega arith)
+  length-cleared (suc i) (x ∷ xs) b = ap suc (length-cleared i xs (omega arith))
