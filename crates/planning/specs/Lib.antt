@@ -1,7 +1,10 @@
 pub mod Costs
 pub mod Estimates
+pub mod Histories
 pub mod Labels
 pub mod Lists
 pub mod Paths
 pub mod Refusals
+pub mod Search
 pub mod Task
+pub mod Theorem

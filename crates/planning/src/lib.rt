@@ -3,4 +3,6 @@ pub mod cost;
 pub mod heuristic;
 pub mod open_list;
 pub mod refusal;
+pub mod status;
 pub mod task;
+pub mod theorem;

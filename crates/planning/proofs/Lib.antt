@@ -1,0 +1,10 @@
+pub mod Bound
+pub mod Exact
+pub mod Frontier
+pub mod Histories
+pub mod Invariant
+pub mod Labels
+pub mod Offers
+pub mod Steps
+pub mod Central
+pub mod Verdicts
