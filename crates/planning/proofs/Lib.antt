@@ -8,3 +8,4 @@ pub mod Offers
 pub mod Steps
 pub mod Central
 pub mod Verdicts
+pub mod Rows

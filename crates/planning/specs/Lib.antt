@@ -1,8 +1,10 @@
+pub mod Checks
 pub mod Costs
 pub mod Estimates
 pub mod Histories
 pub mod Labels
 pub mod Lists
+pub mod Outcomes
 pub mod Paths
 pub mod Refusals
 pub mod Search

@@ -13,11 +13,11 @@ use Rattle.std.specs.declared.option.Option.the-variants.{None}
 use Rattle.std.proofs.shelf.Lists.{drop-drop, drop-at, take-at, length-take-le, getD-take, getD-drop, drop-all, getD-past}
 use Rattle.std.proofs.shelf.Tests.{and-parts, and-from, leb-true, le-leb, cases-lt}
 use Rattle.planning.specs.declared.refusal.Refusal.the-variants.{Frame, Price, Names}
-use Rattle.sheet_layout.specs.Checks.{Check, firstFailing}
+use Rattle.planning.specs.Checks.{Check, firstFailing}
 use Rattle.sheet_layout.specs.Frame.{Action, ValidAction, KindOf, recordBytes, recordEnd, recordPlace, framed, recordChecks, recordsChecks}
 use Rattle.sheet_layout.specs.Numbers.{Bytes, be16, be32, num16, num32}
 use Rattle.sheet_layout.proofs.Bytewise.{read16, read32, written16, written32, past}
-use Rattle.sheet_layout.proofs.Rows.{passed, pass, after}
+use Rattle.planning.proofs.Rows.{passed, pass, after}
 
 -- how the preconditions and effects of a kind are read back from a sheet
 pub record Decodes {C : Type 0} (k : KindOf) (layout : C → List ℕ) (Valid : C → Type 0) (read : List ℕ → ℕ → C) (bs : List ℕ) : Type 0 where

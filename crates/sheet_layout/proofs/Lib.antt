@@ -1,5 +1,4 @@
 pub mod Bytewise
-pub mod Rows
 pub mod Framing
 pub mod Opening
 pub mod Walking

@@ -10,11 +10,11 @@ use Rattle.std.specs.Joined.{joined}
 use Rattle.std.specs.Vec.{Every}
 use Rattle.std.specs.declared.option.Option.the-variants.{None}
 use Rattle.std.proofs.shelf.Tests.{and-parts, and-from, leb-true, le-leb, eqb-true, eq-eqb}
-use Rattle.sheet_layout.specs.Checks.{Check, firstFailing}
+use Rattle.planning.specs.Checks.{Check, firstFailing}
 use Rattle.sheet_layout.specs.Frame.{Action, ValidAction, KindOf, recordBytes, sheetBytes, headOf, openingChecks}
 use Rattle.sheet_layout.specs.Numbers.{Bytes, be16, be32, byteAt, num16, num32}
 use Rattle.sheet_layout.proofs.Bytewise.{read16, read32, written16, written32, past, next}
-use Rattle.sheet_layout.proofs.Rows.{passed, pass}
+use Rattle.planning.proofs.Rows.{passed, pass}
 
 -- the opening, written out from what is read
 pub opening-read : (bs : List ℕ) → Bytes bs → 9 ≤ length bs → byteAt bs 0 ∷ (be32 (num32 bs 1) ++ (byteAt bs 5 ∷ byteAt bs 6 ∷ (be16 (num16 bs 7) ++ drop 9 bs))) ≡ bs

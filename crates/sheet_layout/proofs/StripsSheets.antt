@@ -11,14 +11,14 @@ use Rattle.std.specs.declared.option.Option.the-variants.{None}
 use Rattle.std.specs.Joined.{joined}
 use Rattle.std.specs.Vec.{Every}
 use Rattle.std.proofs.shelf.Tests.{and-parts, and-from, leb-true, le-leb, ltb-true, lt-ltb}
-use Rattle.sheet_layout.specs.Checks.{Check, firstFailing}
+use Rattle.planning.specs.Checks.{Check, firstFailing}
 use Rattle.sheet_layout.specs.Frame.{Action, ValidAction, recordBytes, recordsChecks, headOf, headLength, sheetBytes}
 use Rattle.sheet_layout.specs.Numbers.{Bytes, be16, be32, byteAt, num16, num32}
 use Rattle.sheet_layout.specs.Strips.{Masks, StripsContent, ValidMasks, ValidStrips, masksBytes, stripsBytes, presentMask, stripsKind, stripsHeadChecks, stripsChecks}
 use Rattle.sheet_layout.proofs.Bytewise.{read16, read32, written16, written32, past}
 use Rattle.sheet_layout.proofs.Framing.{Decodes, actionsFrom, records-sound, records-complete}
 use Rattle.sheet_layout.proofs.Opening.{OpeningPassed, opening-passed, opening-pass, opening-written, whole, records-short}
-use Rattle.sheet_layout.proofs.Rows.{passed, pass}
+use Rattle.planning.proofs.Rows.{passed, pass}
 
 abbrev pub readMasks : List ℕ → ℕ → Masks
 readMasks bs p = record { preconditions = num32 bs p; adds = num32 bs (p + 4); deletes = num32 bs (p + 8) }

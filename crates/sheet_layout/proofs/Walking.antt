@@ -7,7 +7,7 @@ use native.Mathlib.Omega.{arith}
 use lib.ListN.{length, take, drop, set, getD, length-append, take-append-drop}
 use Rattle.std.specs.declared.option.Option.the-variants.{None}
 use Rattle.std.proofs.shelf.Lists.{length-map, length-take-le, length-drop, map-append, drop-drop, drop-more, set-at, take-at, take-all, take-map}
-use Rattle.sheet_layout.specs.Checks.{firstFailing}
+use Rattle.planning.specs.Checks.{firstFailing}
 use Rattle.sheet_layout.specs.Frame.{Action, KindOf, recordEnd, recordPlace, recordChecks, recordsChecks}
 use Rattle.sheet_layout.proofs.Framing.{Passed, actionAt, actionsFrom, actions-count, actions-on, records-on, record-passed}
 

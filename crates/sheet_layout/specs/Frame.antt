@@ -11,7 +11,7 @@ use lib.Dec.{eqb, leb}
 use lib.ListN.{length}
 use Rattle.std.specs.Joined.{joined}
 use Rattle.planning.specs.declared.refusal.Refusal.the-variants.{Length, Version, Kind, Count, Frame, Price, Names}
-use Rattle.sheet_layout.specs.Checks.{Check}
+use Rattle.planning.specs.Checks.{Check}
 use Rattle.sheet_layout.specs.Numbers.{Bytes, be16, be32, byteAt, num16, num32}
 
 -- an action of a sheet: its price, its preconditions and effects, its name

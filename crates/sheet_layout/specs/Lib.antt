@@ -1,4 +1,3 @@
-pub mod Checks
 pub mod Frame
 pub mod Numbers
 pub mod Strips

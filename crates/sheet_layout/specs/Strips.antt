@@ -10,7 +10,7 @@ use lib.Dec.{leb, ltb}
 use lib.ListN.{length}
 use Rattle.std.specs.Vec.{Every}
 use Rattle.planning.specs.declared.refusal.Refusal.the-variants.{Count, StartOrGoal}
-use Rattle.sheet_layout.specs.Checks.{Check}
+use Rattle.planning.specs.Checks.{Check}
 use Rattle.sheet_layout.specs.Frame.{Action, ValidAction, KindOf, sheetBytes, openingChecks, actionsCheck, recordsChecks}
 use Rattle.sheet_layout.specs.Numbers.{be32, byteAt, num16, num32}
 

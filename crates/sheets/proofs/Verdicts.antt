@@ -9,14 +9,14 @@ use Rattle.std.specs.declared.option.Option.the-variants.{Some, None}
 use Rattle.std.specs.declared.result.Result.{Result}
 use Rattle.std.specs.declared.result.Result.the-variants.{Ok, Err}
 use Rattle.planning.specs.declared.refusal.Refusal.{Refusal}
-use Rattle.sheet_layout.specs.Checks.{firstFailing}
+use Rattle.planning.specs.Checks.{firstFailing}
 use Rattle.sheet_layout.specs.Frame.{framed, recordEnd, recordPlace}
 use Rattle.sheet_layout.specs.Numbers.{Bytes, byteAt, num16, num32}
 use Rattle.sheet_layout.specs.Strips.{StripsContent, ValidMasks, masksBytes, stripsKind, stripsChecks}
 use Rattle.sheet_layout.proofs.Framing.{actionAt, actionsFrom, actions-count, framed-from, places-sound}
 use Rattle.sheet_layout.proofs.StripsSheets.{readMasks, stripsRead, masks-decode, to-records, strips-sound, strips-complete}
 use Rattle.sheet_layout.proofs.Walking.{Walk, walk-start, walk-to, walk-passed, walk-item}
-use Rattle.sheets.specs.Outcomes.{Answers}
+use Rattle.planning.specs.Outcomes.{Answers}
 use Rattle.sheets.specs.Reading.{Sheet, HeadAt, HeadOf, StripsChecked, Unique}
 use Rattle.sheets.specs.Records.{StripsAt, StripsRecordOf}
 use Rattle.sheets.specs.declared.head.StripsHead.{StripsHead}

@@ -1,4 +1,3 @@
-pub mod Outcomes
 pub mod Reading
 pub mod Records
 pub mod StripsTasks

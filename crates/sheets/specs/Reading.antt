@@ -10,7 +10,7 @@ use Rattle.std.specs.declared.result.Result.{Result}
 use Rattle.std.specs.declared.result.Result.the-variants.{Ok, Err}
 use Rattle.planning.specs.declared.refusal.Refusal.{Refusal}
 use Rattle.planning.specs.declared.refusal.Refusal.the-variants.{Short}
-use Rattle.sheet_layout.specs.Checks.{Check, firstFailing}
+use Rattle.planning.specs.Checks.{Check, firstFailing}
 use Rattle.sheet_layout.specs.Frame.{Action}
 use Rattle.sheet_layout.specs.Numbers.{byteAt, num16, num32}
 use Rattle.sheet_layout.specs.Strips.{Masks, StripsContent, ValidStrips, stripsBytes, stripsChecks}

@@ -1,10 +1,10 @@
 use mathlib.Core.Path.{sym, ap, _∙_}
 use Prim.Native.Nat.{_+_, _-_}
 use Rattle.std.proofs.shelf.Results.{err-from-errBy}
-use Rattle.sheet_layout.specs.Checks.{firstFailing}
+use Rattle.planning.specs.Checks.{firstFailing}
 use Rattle.sheet_layout.specs.Frame.{recordChecks, recordsChecks, recordEnd}
 use Rattle.sheet_layout.proofs.Framing.{records-on}
-use Rattle.sheet_layout.proofs.Rows.{after, within}
+use Rattle.planning.proofs.Rows.{after, within}
 use Rattle.sheets.proofs.frame.check_records.Needs as need
 
 pub returns-in-Break-at : need.returns-in-Break-at

@@ -1,7 +1,7 @@
 use mathlib.Core.Path.{_≡_}
 use Prim.Native.Nat.{_-_, _≤_}
 use lib.ListN.{length}
-use Rattle.sheet_layout.specs.Checks.{firstFailing}
+use Rattle.planning.specs.Checks.{firstFailing}
 use Rattle.sheet_layout.specs.Frame.{recordsChecks}
 use Rattle.sheets.proofs.frame.check_records.Given as given
 

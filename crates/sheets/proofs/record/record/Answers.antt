@@ -4,11 +4,11 @@ use native.Mathlib.Omega.{arith}
 use Rattle.std.specs.declared.option.Option.the-variants.{None}
 use Rattle.std.proofs.shelf.Results.{err-from-errBy}
 use Rattle.std.proofs.shelf.Tests.{le-ltb}
-use Rattle.sheet_layout.specs.Checks.{firstFailing}
+use Rattle.planning.specs.Checks.{firstFailing}
 use Rattle.sheet_layout.specs.Frame.{recordPlace, framed}
 use Rattle.sheet_layout.specs.Numbers.{Bytes, num16}
 use Rattle.sheet_layout.specs.Strips.{stripsKind, stripsChecks}
-use Rattle.sheet_layout.proofs.Rows.{after, within, fail}
+use Rattle.planning.proofs.Rows.{after, within, fail}
 use Rattle.sheet_layout.proofs.StripsSheets.{stripsRead}
 use Rattle.sheets.specs.Records.{StripsAt, numberCheck}
 use Rattle.sheets.proofs.Verdicts.{passes, fits-there, record-there}

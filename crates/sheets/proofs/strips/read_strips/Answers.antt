@@ -8,10 +8,10 @@ use lib.ListN.{length}
 use Rattle.std.specs.declared.option.Option.the-variants.{None}
 use Rattle.std.proofs.shelf.Results.{err-from-errBy}
 use Rattle.std.proofs.shelf.Tests.{and-left, and-right, lt-leb}
-use Rattle.sheet_layout.specs.Checks.{firstFailing}
+use Rattle.planning.specs.Checks.{firstFailing}
 use Rattle.sheet_layout.specs.Numbers.{Bytes}
 use Rattle.sheet_layout.specs.Strips.{stripsChecks}
-use Rattle.sheet_layout.proofs.Rows.{after, within, fail}
+use Rattle.planning.proofs.Rows.{after, within, fail}
 use Rattle.sheet_layout.proofs.StripsSheets.{stripsRead}
 use Rattle.sheets.specs.Reading.{roomCheck}
 use Rattle.sheets.proofs.Verdicts.{passes, head-of}

@@ -2,11 +2,11 @@ use mathlib.Core.List.{List, _++_}
 use Prim.Native.Nat.{ℕ}
 use mathlib.Core.Path.{_≡_, sym, ap, _∙_}
 use Rattle.std.proofs.shelf.Results.{err-from-errBy}
-use Rattle.sheet_layout.specs.Checks.{firstFailing}
+use Rattle.planning.specs.Checks.{firstFailing}
 use Rattle.sheet_layout.specs.Frame.{openingChecks, recordsChecks}
 use Rattle.sheet_layout.specs.Numbers.{byteAt, num16, num32}
 use Rattle.sheet_layout.specs.Strips.{stripsKind, stripsHead, stripsHeadChecks, stripsChecks}
-use Rattle.sheet_layout.proofs.Rows.{after, within}
+use Rattle.planning.proofs.Rows.{after, within}
 use Rattle.sheets.specs.Reading.{HeadAt}
 use Rattle.sheets.proofs.strips.verify.Needs as need
 use Rattle.sheets.proofs.strips.verify.Needs.{In-Continue-head}

@@ -4,8 +4,8 @@ use mathlib.Core.Bool.{Bool, true, false}
 use mathlib.Core.List.{List, [], _∷_, _++_}
 use Rattle.std.specs.declared.option.Option.{Option}
 use Rattle.std.specs.declared.option.Option.the-variants.{Some, None}
 use Rattle.planning.specs.declared.refusal.Refusal.{Refusal}
-use Rattle.sheet_layout.specs.Checks.{Check, otherwise, firstFailing}
+use Rattle.planning.specs.Checks.{Check, otherwise, firstFailing}
 
 -- none of a row fails: the first passes, and none of the others fails
 pub passed : (b : Bool) (r : Refusal) (next : Option Refusal) → otherwise b r next ≡ None → (b ≡ true) × (next ≡ None)
