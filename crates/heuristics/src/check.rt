@@ -1,0 +1,67 @@
+// Whether a table's estimates can be trusted.
+ghost use Rattle.std.specs.Options.{Cases as BySome};
+ghost use Rattle.std.specs.Orderings.{Decides};
+ghost use Rattle.std.specs.Results.{Cases};
+ghost use Rattle.costs.specs.Coins.{coinsAlgebra};
+ghost use Rattle.costs.specs.CoinsThenActions.{pairAlgebra};
+ghost use Rattle.costs.specs.Counted.{coinsCounted, pairCounted};
+ghost use Rattle.heuristics.specs.Checks.{ActionKept, FallsAtMost, FirstBreach, Kept, Refused, Trusted};
+ghost use Rattle.heuristics.specs.Tables.{OneEach, tabled};
+use crate::table::DEAD_END;
+use crate::table::number;
+use planning::refusal::Refusal;
+use planning::task::Task;
+
+// The action that a goal's own entry is reported as.
+pub const GOAL_ENTRY: u16 = 65535;
+
+// Whether the estimate falls by no more than the coins from here to there.
+fn falls_at_most(here: u32, coins: u32, there: u32) -> bool
+    ensures { λ r. ⌜ Decides r (FallsAtMost here coins there) ⌝ }
+{
+    there == DEAD_END || here != DEAD_END && here as u64 <= coins as u64 + there as u64
+}
+
+// Whether an action of a state keeps the rule.
+fn keeps<T: Task>(task: &T, numbers: &[u32], state: u32, action: u16) -> bool
+    ensures { λ r. ⌜ Decides r (ActionKept (T·Task .model (now (task .entry))) (now (numbers .entry)) state action) ⌝ }
+{
+    let Some(to) = task.transition(state, action) else {
+        return true;
+    };
+    falls_at_most(number(numbers, state), to.coins, number(numbers, to.state))
+}
+
+fn first_breach<T: Task>(task: &T, numbers: &[u32]) -> Option<(u32, u16)>
+    ensures { λ r. ⌜ BySome r (Kept (T·Task .model (now (task .entry))) (now (numbers .entry))) (λ place. FirstBreach (T·Task .model (now (task .entry))) (now (numbers .entry)) (place .0) (place .1)) ⌝ }
+{
+    'search: {
+        for state in 0..task.states() {
+            if task.is_goal(state) && number(numbers, state) != 0 {
+                break 'search Some((state, GOAL_ENTRY));
+            }
+            for action in 0..task.actions() {
+                if !keeps(task, numbers, state, action) {
+                    break 'search Some((state, action));
+                }
+            }
+        }
+        None
+    }
+}
+
+// Accepts a table exactly when it keeps the rule, and else names the first place that breaks it.
+pub fn check_table<T: Task>(task: &T, numbers: &[u32]) -> Result<(), Refusal>
+    ensures checked { λ r. ⌜ Cases r (λ _. OneEach (T·Task .model (now (task .entry))) (now (numbers .entry)) × Kept (T·Task .model (now (task .entry))) (now (numbers .entry))) (Refused (T·Task .model (now (task .entry))) (now (numbers .entry))) ⌝ }
+    ensures coins { λ r. ⌜ Cases r (λ _. Trusted (T·Task .model (now (task .entry))) coinsAlgebra (tabled coinsCounted (now (numbers .entry)))) (λ _. Unit {0}) ⌝ }
+    ensures pairs { λ r. ⌜ Cases r (λ _. Trusted (T·Task .model (now (task .entry))) pairAlgebra (tabled pairCounted (now (numbers .entry)))) (λ _. Unit {0}) ⌝ }
+{
+    let states = task.states();
+    if numbers.len() != states as usize {
+        return Err(Refusal::TableLength { states });
+    }
+    match first_breach(task, numbers) {
+        None => Ok(()),
+        Some((state, action)) => Err(Refusal::Inconsistent { state, action }),
+    }
+}
