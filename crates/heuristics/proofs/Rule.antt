@@ -64,12 +64,13 @@ kept-trusted a laws count counted t numbers kept =
     let consistent = kept-consistent a count counted t numbers kept in
     record {
       admissible = consistent-admissible t a laws (tabled count numbers)
-      (λ p goal. let zero = kept p .goal goal in let none = counted .none in grind (arith, tells))
-      consistent;
+          (λ p goal. let zero = kept p .goal goal in let none = counted .none in grind (arith, tells))
+          consistent;
       consistent = consistent;
     }
 
 pub keeps-decides : (t : Model) (numbers : List ℕ) (p action : ℕ) (to : Transition) (here there : ℕ) (r : Bool) → t .transition p action ≡ Some to → here ≡ getD numbers p 0 → there ≡ getD numbers (to .state) 0 → Decides r (FallsAtMost here (to .coins) there) → Decides r (ActionKept t numbers p action)
-keeps-decides t numbers p action to here there r e eh et falls =
-    ( λ yes-r. consistent-from-falls coinsAlgebra coinsCounted coins-counted t numbers p action to e (λ small. omega (arith, falls .0 yes-r (omega arith)))
-    , λ kept. falls .1 (λ small. omega (arith, falls-from-kept t numbers p action to e kept (omega arith))) )
+keeps-decides t numbers p action to here there r e eh et falls = (
+  λ yes-r. consistent-from-falls coinsAlgebra coinsCounted coins-counted t numbers p action to e (λ small. omega (arith, falls .0 yes-r (omega arith))),
+  λ kept. falls .1 (λ small. omega (arith, falls-from-kept t numbers p action to e kept (omega arith))),
+)

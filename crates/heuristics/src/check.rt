@@ -5,7 +5,7 @@ ghost use Rattle.std.specs.Results.{Cases};
 ghost use Rattle.costs.specs.Coins.{coinsAlgebra};
 ghost use Rattle.costs.specs.CoinsThenActions.{pairAlgebra};
 ghost use Rattle.costs.specs.Counted.{coinsCounted, pairCounted};
-ghost use Rattle.heuristics.specs.Checks.{ActionKept, FallsAtMost, FirstBreach, Kept, Refused, Trusted};
+ghost use Rattle.heuristics.specs.Checks.{ActionKept, FallsAtMost, FirstBreach, GoalKept, Kept, Refused, Trusted};
 ghost use Rattle.heuristics.specs.Tables.{OneEach, tabled};
 use crate::table::DEAD_END;
 use crate::table::number;
@@ -22,8 +22,15 @@ fn falls_at_most(here: u32, coins: u32, there: u32) -> bool
     there == DEAD_END || here != DEAD_END && here as u64 <= coins as u64 + there as u64
 }
 
+// Whether a state's own entry keeps the rule.
+fn keeps_entry<T: Task>(task: &T, numbers: &[u32], state: u32) -> bool
+    ensures { λ r. ⌜ Decides r (GoalKept (T·Task .model (now (task .entry))) (now (numbers .entry)) state) ⌝ }
+{
+    !task.is_goal(state) || number(numbers, state) == 0
+}
+
 // Whether an action of a state keeps the rule.
-fn keeps<T: Task>(task: &T, numbers: &[u32], state: u32, action: u16) -> bool
+fn keeps_action<T: Task>(task: &T, numbers: &[u32], state: u32, action: u16) -> bool
     ensures { λ r. ⌜ Decides r (ActionKept (T·Task .model (now (task .entry))) (now (numbers .entry)) state action) ⌝ }
 {
     let Some(to) = task.transition(state, action) else {
@@ -37,11 +44,11 @@ fn first_breach<T: Task>(task: &T, numbers: &[u32]) -> Option<(u32, u16)>
 {
     'search: {
         for state in 0..task.states() {
-            if task.is_goal(state) && number(numbers, state) != 0 {
+            if !keeps_entry(task, numbers, state) {
                 break 'search Some((state, GOAL_ENTRY));
             }
             for action in 0..task.actions() {
-                if !keeps(task, numbers, state, action) {
+                if !keeps_action(task, numbers, state, action) {
                     break 'search Some((state, action));
                 }
             }

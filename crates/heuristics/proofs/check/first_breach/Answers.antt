@@ -1,15 +1,15 @@
-use mathlib.Core.Path.{_≡_, sym, _∙_}
-use Prim.Native.Nat.{ℕ}
 use native.Mathlib.Omega.{arith}
 use borrow.Author.Count.{below-more}
+use Rattle.std.proofs.shelf.Ways.{not-from-decides}
 use Rattle.heuristics.specs.Checks.{at-entry, at-action}
 use Rattle.heuristics.proofs.Rule.{actions-kept, states-kept}
 use Rattle.heuristics.proofs.check.first_breach.Needs as need
 
 pub loop-action-again : need.loop-action-again
-loop-action-again g c =
-    ( c .loop-action .inv .0
-    , below-more _ _ (c .loop-action .inv .1) (c .keeps .ensures .0 (c .if-not-keeps .left)) )
+loop-action-again g c = (
+  c .loop-action .inv .0,
+  below-more _ _ (c .loop-action .inv .1) (c .keeps-action .ensures .0 (c .if-not-keeps-action .left)),
+)
 
 pub loop-state-again : need.loop-state-again
 loop-state-again g c =
@@ -19,19 +19,14 @@ loop-state-again g c =
       actions = actions-kept _ (g .T·Task .lawful (c .args .task .now)) _ _ (λ b h. c .loop-action .inv .1 b (omega arith));
     })
 
-pub returns-then-number-ne0 : need.returns-then-number-ne0
-returns-then-number-ne0 g c =
-    at-entry (c .loop-state .inv)
-    (λ kept. c .if-number-ne0 .taken (c .number .ensures ∙ kept (sym (c .if-is-goal .ensures tt))))
+pub returns-then-not-keeps-entry : need.returns-then-not-keeps-entry
+returns-then-not-keeps-entry g c =
+    at-entry (c .loop-state .inv) (not-from-decides _ (c .keeps-entry .ensures) (c .if-not-keeps-entry .taken))
 
-pub returns-then-not-keeps : need.returns-then-not-keeps
-returns-then-not-keeps g c =
+pub returns-then-not-keeps-action : need.returns-then-not-keeps-action
+returns-then-not-keeps-action g c =
     at-action (c .loop-state .inv) (c .loop-action .inv .0) (c .loop-action .inv .1)
-    (λ kept.
-      let taken = c .if-not-keeps .taken in
-      let held = c .keeps .ensures .1 kept in
-      let clash : _≡_ {A = ℕ} 0 1 = cc in
-      omega arith)
+    (not-from-decides _ (c .keeps-action .ensures) (c .if-not-keeps-action .taken))
 
 pub returns-after-loop-state : need.returns-after-loop-state
 returns-after-loop-state g c =

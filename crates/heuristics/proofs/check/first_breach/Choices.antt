@@ -8,4 +8,4 @@ Inv-loop-state g l = (q : ℕ) → q < l .state → StateKept (g .T·Task .model
 abbrev pub Inv-loop-action : given.InvT-loop-action
 Inv-loop-action g l =
     GoalKept (g .T·Task .model (l .task)) (l .numbers) (l .state)
-  × ((b : ℕ) → b < l .action → ActionKept (g .T·Task .model (l .task)) (l .numbers) (l .state) b)
+    × ((b : ℕ) → b < l .action → ActionKept (g .T·Task .model (l .task)) (l .numbers) (l .state) b)

@@ -1,6 +1,6 @@
 use mathlib.Core.Path.{sym}
 use Rattle.heuristics.proofs.Rule.{keeps-decides}
-use Rattle.heuristics.proofs.check.keeps.Needs as need
+use Rattle.heuristics.proofs.check.keeps_action.Needs as need
 
 pub returns : need.returns
 returns g c =
