@@ -10,7 +10,8 @@ use Rattle.planning.specs.Task.{Model}
 use Rattle.planning.specs.declared.refusal.Refusal.{Refusal}
 use Rattle.planning.specs.declared.refusal.Refusal.the-variants.{Inconsistent}
 use Rattle.costs.specs.Coins.{coinsAlgebra}
-use Rattle.costs.specs.Counted.{coinsCounted}
+use Rattle.costs.specs.CoinsThenActions.{pairAlgebra}
+use Rattle.costs.specs.Counted.{coinsCounted, pairCounted}
 use Rattle.heuristics.specs.Tables.{OneEach, WrongLength, tabled}
 
 -- the rule at a state's own entry
@@ -29,6 +30,7 @@ pub record StateKept (t : Model) (numbers : List ℕ) (p : ℕ) : Type 0 where
   pub goal : GoalKept t numbers p
   pub actions : (action : ℕ) → ActionKept t numbers p action
 
+-- each goal has 0, and every action falls by no more than its coins
 abbrev pub Kept : Model → List ℕ → Type 0
 Kept t numbers = (p : ℕ) → StateKept t numbers p
 
@@ -38,11 +40,18 @@ pub data FirstBreach (t : Model) (numbers : List ℕ) : ℕ → ℕ → Type 0 w
   at-entry : {p : ℕ} → ((q : ℕ) → q < p → StateKept t numbers q) → (GoalKept t numbers p → ⊥) → FirstBreach t numbers p 65535
   at-action : {p action : ℕ} → ((q : ℕ) → q < p → StateKept t numbers q) → GoalKept t numbers p → ((b : ℕ) → b < action → ActionKept t numbers p b) → (ActionKept t numbers p action → ⊥) → FirstBreach t numbers p action
 
+pub record Trusted {K : Type 0} (t : Model) (a : Algebra K) (h : Estimates K) : Type 0 where
+  pub admissible : Admissible t a h
+  pub consistent : Consistent t a h
+
+-- what an accepted table has, under coins and under pairs
+pub record Accepted (t : Model) (numbers : List ℕ) : Type 0 where
+  pub one-each : OneEach t numbers
+  pub kept : Kept t numbers
+  pub coins : Trusted t coinsAlgebra (tabled coinsCounted numbers)
+  pub pairs : Trusted t pairAlgebra (tabled pairCounted numbers)
+
 -- why a table is refused, where its length is looked at first
 pub data Refused (t : Model) (numbers : List ℕ) : Refusal → Type 0 where
   wrong-length : {e : Refusal} → WrongLength t numbers e → Refused t numbers e
   breached : {p action : ℕ} → OneEach t numbers → FirstBreach t numbers p action → Refused t numbers (Inconsistent p action)
-
-pub record Trusted {K : Type 0} (t : Model) (a : Algebra K) (h : Estimates K) : Type 0 where
-  pub admissible : Admissible t a h
-  pub consistent : Consistent t a h
