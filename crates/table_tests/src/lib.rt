@@ -35,9 +35,21 @@ mod tests {
     use std::test::*;
 
     const ACTIONS: [StripsAction; 3] = [
-        StripsAction { preconditions: 0, adds: 1, deletes: 0 },
-        StripsAction { preconditions: 0, adds: 2, deletes: 0 },
-        StripsAction { preconditions: 3, adds: 4, deletes: 0 },
+        StripsAction {
+            preconditions: 0,
+            adds: 1,
+            deletes: 0,
+        },
+        StripsAction {
+            preconditions: 0,
+            adds: 2,
+            deletes: 0,
+        },
+        StripsAction {
+            preconditions: 3,
+            adds: 4,
+            deletes: 0,
+        },
     ];
 
     const PRICES: [u32; 3] = [1, 1, 1];
@@ -52,18 +64,12 @@ mod tests {
             action: 0,
         };
         check_eq(high.number(), 11)?;
-        check_eq(
-            check_table(&task, &[4, 2, 2, 1, 0, 0, 0, 0]),
-            Err(high),
-        )?;
+        check_eq(check_table(&task, &[4, 2, 2, 1, 0, 0, 0, 0]), Err(high))?;
         let entry = Refusal::Inconsistent {
             state: 6,
             action: 65535,
         };
-        check_eq(
-            check_table(&task, &[3, 2, 2, 1, 0, 0, 5, 0]),
-            Err(entry),
-        )?;
+        check_eq(check_table(&task, &[3, 2, 2, 1, 0, 0, 5, 0]), Err(entry))?;
         let short = Refusal::TableLength { states: 8 };
         check_eq(check_table(&task, &[4, 2]), Err(short))
     }
@@ -84,10 +90,7 @@ mod tests {
     #[test]
     fn estimates_under_pairs() -> Result<(), Fail> {
         let task = StripsTask::new(StripsHead::new(3, 3, 0, 4)?, &ACTIONS, &PRICES);
-        let table: Table<CoinsThenActions> = Table::new(
-            &task,
-            &[3, DEAD_END, 2, 1, 0, 0, 0, 0],
-        )?;
+        let table: Table<CoinsThenActions> = Table::new(&task, &[3, DEAD_END, 2, 1, 0, 0, 0, 0])?;
         let zero = CoinsThenActions {
             coins: 0,
             actions: 0,

@@ -7,7 +7,7 @@ use Rattle.heuristics.proofs.Rule.{kept-trusted}
 use Rattle.heuristics.proofs.check.check_table.Needs as need
 
 pub returns-then-numbers-states : need.returns-then-numbers-states
-returns-then-numbers-states g c = wrong-length (ap TableLength (c .states-states .ensures), omega arith)
+returns-then-numbers-states g c = wrong-length (ap TableLength (c .states-states .ensures .value), omega arith)
 
 pub returns-in-None : need.returns-in-None
 returns-in-None g c =

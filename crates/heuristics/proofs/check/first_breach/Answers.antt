@@ -16,7 +16,7 @@ loop-state-again g c =
     below-more _ _ (c .loop-state .inv)
     (record {
       goal = c .loop-action .inv .0;
-      actions = actions-kept _ (c .states .ensures .lawful) _ _ (λ b h. c .loop-action .inv .1 b (omega arith));
+      actions = actions-kept _ (c .states-state-end .ensures .lawful) _ _ (λ b h. c .loop-action .inv .1 b (omega arith));
     })
 
 pub returns-then-not-keeps-entry : need.returns-then-not-keeps-entry
@@ -30,4 +30,4 @@ returns-then-not-keeps-action g c =
 
 pub returns-after-loop-state : need.returns-after-loop-state
 returns-after-loop-state g c =
-    states-kept _ (c .states .ensures .lawful) _ (λ q h. c .loop-state .inv q (omega arith))
+    states-kept _ (c .states-state-end .ensures .lawful) _ (λ q h. c .loop-state .inv q (omega arith))
