@@ -1,3 +1,6 @@
+pub mod Earlier
 pub mod Fields
 pub mod Flats
-pub mod Earlier
+pub mod Heaps
+pub mod Pigeons
+pub mod Sifts

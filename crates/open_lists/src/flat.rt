@@ -91,7 +91,7 @@ impl<'a, K: CostAlgebra> Flat<'a, K> {
     // An empty list with a slot for each state below the length of the slice; what the slots held is lost.
     pub fn new(slots: &'a mut [Slot<K>]) -> Flat<'a, K>
         ensures emptied { λ r. ⌜ Emptied (flatWaiting (now (r .slots))) ⌝ }
-        ensures room { λ r. ⌜ length (now (r .slots)) ≡ length (now (slots .entry)) ⌝ }
+        ensures room { λ r. ⌜ roomOf (length (now (r .slots))) ≡ roomOf (length (now (slots .entry))) ⌝ }
     {
         wipe(slots);
         Flat { slots }
