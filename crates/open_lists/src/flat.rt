@@ -36,6 +36,7 @@ impl<K: CostAlgebra> Slot<K> {
     }
 }
 
+#[derive(Drop)]
 pub struct Flat<'a, K> {
     slots: &'a mut [Slot<K>],
 }
