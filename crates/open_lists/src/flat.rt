@@ -26,7 +26,7 @@ pub struct Slot<K> {
 impl<K: CostAlgebra> Slot<K> {
     // A slot in which nothing waits.
     pub fn blank() -> Slot<K>
-        ensures { λ r. ⌜ r .waits ≡ false ⌝ }
+        ensures { λ r. ⌜ r ≡ record { waits = false; front = K·CostAlgebra .algebra .zero; tagged = false } ⌝ }
     {
         Slot {
             waits: false,
@@ -121,7 +121,7 @@ pub impl<'a, K: CostAlgebra> OpenList for Flat<'a, K> as FlatOpenList {
     }
 
     fn put(&mut self, state: u32, front: K, tagged: bool) -> bool {
-        if state >= served(self.slots.len()) {
+        if state >= self.capacity() {
             return false;
         }
         self.slots[state as usize] = Slot {
@@ -133,11 +133,11 @@ pub impl<'a, K: CostAlgebra> OpenList for Flat<'a, K> as FlatOpenList {
     }
 
     fn least(&self) -> Option<Entry<K>> {
-        scan(self.slots, served(self.slots.len()))
+        scan(self.slots, self.capacity())
     }
 
     fn take(&mut self) -> Option<Entry<K>> {
-        let states = served(self.slots.len());
+        let states = self.capacity();
         take_least(self.slots, states)
     }
 }

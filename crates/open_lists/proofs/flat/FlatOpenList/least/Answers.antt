@@ -8,4 +8,4 @@ returns g c _ =
     let a = g .K·CostAlgebra .algebra in
     let xs = c .args .self .now .slots .now in
     let r = c .scan .result in
-    shown a xs r (reached a (slotLabel xs) _ _ r r (c .served .ensures) refl (c .scan .ensures))
+    shown a xs r (reached a (slotLabel xs) _ _ r r (c .capacity .ensures) refl (c .scan .ensures))

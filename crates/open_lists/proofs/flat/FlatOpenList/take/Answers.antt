@@ -10,7 +10,7 @@ returns g c =
     let a = g .K·CostAlgebra .algebra in
     let xs = c .args .self .now .slots .now in
     let r = c .take-least .result in
-    let s = reached a (slotLabel xs) _ _ r r (c .served-states .ensures) refl (c .take-least .ensures .scanned) in
+    let s = reached a (slotLabel xs) _ _ r r (c .capacity-states .ensures) refl (c .take-least .ensures .scanned) in
     record {
       least = λ _. shown a xs r s;
       taken = λ _. freed xs (c .take-least .last .slots) (c .take-least .kept .slots) a r s (c .take-least .ensures .taken);
