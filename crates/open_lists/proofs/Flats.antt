@@ -16,9 +16,9 @@ use Rattle.planning.specs.Lists.{Waiting, Changed, Least, Taken, First, labelOf
 use Rattle.planning.specs.declared.open_list.Entry.{Entry}
 use Rattle.open_lists.specs.declared.flat.Slot.{Slot}
 use Rattle.open_lists.specs.Flats.{Scanned, LeastBelow, bestBelow, betterEntry, better, labelIn, slotLabel, flatWaiting, flatNext}
-use Rattle.open_lists.specs.Order.{ahead, roomOf}
+use Rattle.heap_order.specs.Order.{ahead, roomOf}
 use Rattle.open_lists.proofs.Fields.{field-set}
-use Rattle.open_lists.proofs.Earlier.{not-itself, one-way, chain}
+use Rattle.heap_order.proofs.Earlier.{not-itself, one-way, chain}
 
 module _ {K : Type 0} (a : Algebra K) (w : Waiting K) (n : ℕ) where
   passed : (best : Option (Entry K)) → w n ≡ None → Scanned a w n best → Scanned a w (suc n) best

@@ -13,7 +13,7 @@ use Rattle.planning.specs.Labels.{Label, earlier}
 use Rattle.planning.specs.Lists.{Waiting, labelOf}
 use Rattle.planning.specs.declared.open_list.Entry.{Entry}
 use Rattle.open_lists.specs.declared.flat.Slot.{Slot}
-use Rattle.open_lists.specs.Order.{roomOf, ahead}
+use Rattle.heap_order.specs.Order.{roomOf, ahead}
 
 abbrev pub labelIn : {K : Type 0} → Slot K → Option (Label K)
 labelIn s = cond (s .waits) (Some (record { cost = s .front; tagged = s .tagged })) None

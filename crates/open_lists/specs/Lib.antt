@@ -1,3 +1,2 @@
 pub mod Flats
-pub mod Heaps
-pub mod Order
+pub mod Views

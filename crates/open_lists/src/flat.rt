@@ -8,7 +8,7 @@ ghost use Rattle.std.proofs.shelf.Tests.{cond-false, le-ltb};
 ghost use Rattle.std.specs.declared.option.Option.the-variants.{Some, None};
 ghost use Rattle.planning.specs.Lists.{Emptied, Taken};
 ghost use Rattle.open_lists.specs.Flats.{slotLabel, flatWaiting, flatNext, betterEntry, Scanned};
-ghost use Rattle.open_lists.specs.Order.{roomOf};
+ghost use Rattle.heap_order.specs.Order.{roomOf};
 use crate::order::precedes;
 use crate::order::served;
 use planning::cost::CostAlgebra;

@@ -1,6 +1,6 @@
 // Which of two entries comes first, and how many states a slice can serve.
 ghost use mathlib.Core.Path.{_≡_};
-ghost use Prim.Native.Nat.{_-_, _^_, min};
+ghost use Rattle.heap_order.specs.Order.{roomOf};
 ghost use Rattle.planning.specs.Labels.{earlier};
 ghost use Rattle.planning.specs.Lists.{labelOf};
 use planning::cost::CostAlgebra;
@@ -14,7 +14,7 @@ pub fn precedes<K: CostAlgebra>(x: Entry<K>, y: Entry<K>) -> bool
 
 // States are numbered in 32 bits, so a longer slice serves no more states than they can count.
 pub fn served(length: usize) -> u32
-    ensures { λ r. ⌜ r ≡ min length (2 ^ 32 - 1) ⌝ }
+    ensures { λ r. ⌜ r ≡ roomOf length ⌝ }
 {
     length.min(u32::MAX as usize) as u32
 }

@@ -2,7 +2,7 @@ use mathlib.Core.Path.{ap}
 use native.Mathlib.Omega.{arith}
 use lib.ListN.{length-set}
 use Rattle.std.proofs.shelf.Tests.{true≢false}
-use Rattle.open_lists.specs.Order.{roomOf}
+use Rattle.heap_order.specs.Order.{roomOf}
 use Rattle.open_lists.proofs.Flats.{written, change}
 use Rattle.open_lists.proofs.flat.FlatOpenList.put.Needs as need
 

@@ -1,7 +1,7 @@
 use mathlib.Core.Path.{ap, refl}
 use native.Mathlib.Omega.{arith}
 use Rattle.open_lists.specs.Flats.{slotLabel}
-use Rattle.open_lists.specs.Order.{roomOf}
+use Rattle.heap_order.specs.Order.{roomOf}
 use Rattle.open_lists.proofs.Flats.{shown, freed, reached}
 use Rattle.open_lists.proofs.flat.FlatOpenList.take.Needs as need
 
