@@ -1,0 +1,4 @@
+// The marker: whether a cheapest solution from a state begins with an action, by a search in turns.
+mod checks;
+pub mod marking;
+mod search;
