@@ -165,3 +165,32 @@ fn turn<T: Task, H: Heuristic, L: OpenList<Cost = H::Cost>>(
     let status = onward(list, marking.turns + 1, marking.limit);
     Ok(counted(marking, status))
 }
+
+// Turns in a row, as many as the budget, or fewer where the marking is then not open or a turn refuses.
+pub(crate) fn run<T: Task, H: Heuristic, L: OpenList<Cost = H::Cost>>(
+    marking: Marking,
+    task: &T,
+    heuristic: &H,
+    list: &mut L,
+    table: &mut [Record<H::Cost>],
+    budget: u32,
+) -> Result<Marking, (Marking, u32)>
+    requires goes { ⌜ marking .status ≡ Open ⌝ }
+    requires table { ⌜ T·Task .model (now task) .states ≤ length (now table) ⌝ }
+    requires list { ⌜ T·Task .model (now task) .states ≤ L·OpenList .room (now list) ⌝ }
+    ensures ran { λ r. ⌜ (L·OpenList .ordered (now (list .entry)) → Cases r (λ m. Advanced (T·Task .model (now (task .entry))) (Cost·CostAlgebra .algebra) (Cost·CostAlgebra .algebra .computed) (H·Heuristic .estimated (now (heuristic .entry))) budget (configurationOf marking (now (table .entry)) (L·OpenList .waiting (now (list .entry)))) (configurationOf m (now (table .exit)) (L·OpenList .waiting (now (list .exit))))) (λ met. Stopped (T·Task .model (now (task .entry))) (Cost·CostAlgebra .algebra) (Cost·CostAlgebra .algebra .computed) (H·Heuristic .estimated (now (heuristic .entry))) budget (met .1) (configurationOf marking (now (table .entry)) (L·OpenList .waiting (now (list .entry)))) (configurationOf (met .0) (now (table .exit)) (L·OpenList .waiting (now (list .exit)))))) ⌝ }
+    ensures ordered { λ _. ⌜ (L·OpenList .ordered (now (list .entry)) → L·OpenList .ordered (now (list .exit))) ⌝ }
+    ensures room { λ _. ⌜ L·OpenList .room (now (list .exit)) ≡ L·OpenList .room (now (list .entry)) ⌝ }
+{
+    let mut left = marking;
+    for made in 0..budget {
+        match turn(left, task, heuristic, list, table) {
+            Ok(next) => left = next,
+            Err(place) => return Err((left, place)),
+        }
+        let Status::Open = left.status else {
+            return Ok(left);
+        };
+    }
+    Ok(left)
+}
