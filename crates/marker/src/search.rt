@@ -2,6 +2,7 @@
 ghost use mathlib.Core.Path.{_≡_};
 ghost use Prim.Native.Nat.{_+_, _≤_, _<_};
 ghost use lib.ListN.{length};
+ghost use Rattle.std.specs.Options.{Cases as Met};
 ghost use Rattle.std.specs.Results.{Cases};
 ghost use Rattle.planning.specs.declared.status.Status.the-variants.{Open};
 ghost use Rattle.planning.specs.Search.{cleared, takes, Offered, Swept, Onward, Turn, Foreign, Advanced, Stopped, verdictOf};
@@ -161,9 +162,24 @@ fn turn<T: Task, H: Heuristic, L: OpenList<Cost = H::Cost>>(
     if task.is_goal(state) {
         return Ok(counted(marking, verdict(found.tagged)));
     }
-    sweep(task, heuristic, list, table, state, found.cost, found.tagged);
+    sweep(
+        task,
+        heuristic,
+        list,
+        table,
+        state,
+        found.cost,
+        found.tagged,
+    );
     let status = onward(list, marking.turns + 1, marking.limit);
     Ok(counted(marking, status))
+}
+
+// Where a row of turns has led, and the place of the foreign entry that it met, if any.
+#[derive(Clone, Copy)]
+pub(crate) struct Reached {
+    pub(crate) marking: Marking,
+    pub(crate) met: Option<u32>,
 }
 
 // Turns in a row, as many as the budget, or fewer where the marking is then not open or a turn refuses.
@@ -174,11 +190,11 @@ pub(crate) fn run<T: Task, H: Heuristic, L: OpenList<Cost = H::Cost>>(
     list: &mut L,
     table: &mut [Record<H::Cost>],
     budget: u32,
-) -> Result<Marking, (Marking, u32)>
+) -> Reached
     requires goes { ⌜ marking .status ≡ Open ⌝ }
     requires table { ⌜ T·Task .model (now task) .states ≤ length (now table) ⌝ }
     requires list { ⌜ T·Task .model (now task) .states ≤ L·OpenList .room (now list) ⌝ }
-    ensures ran { λ r. ⌜ (L·OpenList .ordered (now (list .entry)) → Cases r (λ m. Advanced (T·Task .model (now (task .entry))) (Cost·CostAlgebra .algebra) (Cost·CostAlgebra .algebra .computed) (H·Heuristic .estimated (now (heuristic .entry))) budget (configurationOf marking (now (table .entry)) (L·OpenList .waiting (now (list .entry)))) (configurationOf m (now (table .exit)) (L·OpenList .waiting (now (list .exit))))) (λ met. Stopped (T·Task .model (now (task .entry))) (Cost·CostAlgebra .algebra) (Cost·CostAlgebra .algebra .computed) (H·Heuristic .estimated (now (heuristic .entry))) budget (met .1) (configurationOf marking (now (table .entry)) (L·OpenList .waiting (now (list .entry)))) (configurationOf (met .0) (now (table .exit)) (L·OpenList .waiting (now (list .exit)))))) ⌝ }
+    ensures ran { λ r. ⌜ (L·OpenList .ordered (now (list .entry)) → Met (r .met) (Advanced (T·Task .model (now (task .entry))) (Cost·CostAlgebra .algebra) (Cost·CostAlgebra .algebra .computed) (H·Heuristic .estimated (now (heuristic .entry))) budget (configurationOf marking (now (table .entry)) (L·OpenList .waiting (now (list .entry)))) (configurationOf (r .marking) (now (table .exit)) (L·OpenList .waiting (now (list .exit))))) (λ place. Stopped (T·Task .model (now (task .entry))) (Cost·CostAlgebra .algebra) (Cost·CostAlgebra .algebra .computed) (H·Heuristic .estimated (now (heuristic .entry))) budget place (configurationOf marking (now (table .entry)) (L·OpenList .waiting (now (list .entry)))) (configurationOf (r .marking) (now (table .exit)) (L·OpenList .waiting (now (list .exit)))))) ⌝ }
     ensures ordered { λ _. ⌜ (L·OpenList .ordered (now (list .entry)) → L·OpenList .ordered (now (list .exit))) ⌝ }
     ensures room { λ _. ⌜ L·OpenList .room (now (list .exit)) ≡ L·OpenList .room (now (list .entry)) ⌝ }
 {
@@ -186,11 +202,22 @@ pub(crate) fn run<T: Task, H: Heuristic, L: OpenList<Cost = H::Cost>>(
     for made in 0..budget {
         match turn(left, task, heuristic, list, table) {
             Ok(next) => left = next,
-            Err(place) => return Err((left, place)),
+            Err(place) => {
+                return Reached {
+                    marking: left,
+                    met: Some(place),
+                };
+            }
         }
         let Status::Open = left.status else {
-            return Ok(left);
+            return Reached {
+                marking: left,
+                met: None,
+            };
         };
     }
-    Ok(left)
+    Reached {
+        marking: left,
+        met: None,
+    }
 }

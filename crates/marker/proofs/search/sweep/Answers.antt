@@ -22,14 +22,14 @@ loop-action-again g c =
     let list = g .L·OpenList in
     let inv = c .loop-action .inv in
     elim (c .match-transition .came) [
-      in-Some w ↦
-      rw (w .list-is, w .table-is) (
-        λ o. swept-offer (w .in-Some .to) (labelled (w .plus .result) (c .args .tagged)) (inv .0 o) (sym (c .transition .ensures) ∙ w .in-Some .is)
-            (λ i. labelled ((w .plus .ensures ∙ ap (g .Cost·CostAlgebra .algebra .computed (c .args .cost)) (w .charge-charge .ensures)) i) (c .args .tagged))
-            (w .offer .ensures .offered (inv .1 o)),
-        λ o. w .offer .ensures .ordered (inv .1 o),
-        w .offer .ensures .room ∙ inv .2,
-      )
+      | in-Some w ↦
+          rw (w .list-is, w .table-is) (
+            λ o. swept-offer (w .in-Some .to) (labelled (w .plus .result) (c .args .tagged)) (inv .0 o) (sym (c .transition .ensures) ∙ w .in-Some .is)
+                (λ i. labelled ((w .plus .ensures ∙ ap (g .Cost·CostAlgebra .algebra .computed (c .args .cost)) (w .charge-charge .ensures)) i) (c .args .tagged))
+                (w .offer .ensures .offered (inv .1 o)),
+            λ o. w .offer .ensures .ordered (inv .1 o),
+            w .offer .ensures .room ∙ inv .2,
+          )
       | in-rest w ↦ rw (w .list-is, w .table-is) (λ o. swept-idle (inv .0 o) (sym (c .transition .ensures) ∙ w .in-rest .is), inv .1, inv .2)
     ]
 
