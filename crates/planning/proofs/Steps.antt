@@ -7,14 +7,16 @@ use native.Mathlib.Numerals.{add-one}
 use native.Mathlib.Omega.{arith}
 use lib.ListN.{length, set}
 use Rattle.std.specs.Finite.{nth}
+use Rattle.std.specs.declared.option.Option.{Option}
 use Rattle.std.specs.declared.option.Option.the-variants.{Some, None}
 use Rattle.planning.specs.declared.cost.Record.{Record}
+use Rattle.planning.specs.declared.open_list.Entry.{Entry}
 use Rattle.planning.specs.declared.status.Status.the-variants.{Open}
 use Rattle.planning.specs.declared.task.Transition.{Transition}
 use Rattle.planning.specs.Costs.{Algebra}
 use Rattle.planning.specs.Estimates.{Estimates}
 use Rattle.planning.specs.Labels.{Label}
-use Rattle.planning.specs.Lists.{Waiting, Put}
+use Rattle.planning.specs.Lists.{Waiting, Changed, Put, Least, Taken}
 use Rattle.planning.specs.Search.{Memory, Configuration, blank, cleared, takes, Offered, offer, Swept, more, Turn, Runs, turn}
 use Rattle.planning.specs.Task.{Model}
 
@@ -70,3 +72,8 @@ module _ {K : Type 0} (a : Algebra K) where
   length-cleared zero xs b = refl
   length-cleared (suc i) [] b = absurd (omega arith)
   length-cleared (suc i) (x ∷ xs) b = ap suc (length-cleared i xs (omega arith))
+
+-- what is taken is what was seen to be least
+pub taken-least : {K : Type 0} (a : Algebra K) (w w′ : Waiting K) (next : Option ℕ) (e : Entry K) (r : Option (Entry K)) → Least a w next (Some e) → Least a w next r → Taken w w′ r → Changed w w′ (e .state) None
+taken-least a w w′ next e None l k t = absurd (let z : _≡_ {A = ℕ} 0 1 = cc (l .1, k .1) in omega arith)
+taken-least a w w′ next e (Some f) l k t = let same : f .state ≡ e .state = cc (l .1, k .1) in subst (λ p. Changed w w′ p None) same t
