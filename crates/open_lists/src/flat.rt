@@ -89,7 +89,8 @@ fn take_least<K: CostAlgebra>(slots: &mut [Slot<K>], states: u32) -> Option<Entr
 }
 
 impl<'a, K: CostAlgebra> Flat<'a, K> {
-    // An empty list with a slot for each state below the length of the slice; what the slots held is lost.
+    // An empty list with a slot for each state below the length of the slice. What the slots held is lost, and what
+    // they hold when the list is done with is not promised.
     pub fn new(slots: &'a mut [Slot<K>]) -> Flat<'a, K>
         ensures emptied { λ r. ⌜ Emptied (flatWaiting (now (r .slots))) ⌝ }
         ensures room { λ r. ⌜ roomOf (length (now (r .slots))) ≡ roomOf (length (now (slots .entry))) ⌝ }
