@@ -31,6 +31,8 @@ pub fn answer<T: Task>(
 ) -> Result<Status, Refusal>
     ensures { λ r. ⌜ Answers (firstFailing (startChecks (T·Task .model (now (task .entry))) (length (now (table .entry))) (roomOf (length (now (places .entry)))) state action 1000000)) (Verdict (T·Task .model (now (task .entry))) state action) r ⌝ }
 {
+    // A task has fewer states than the limit.
+    let _ = task.states();
     let blind: Blind<Coins> = Blind::new();
     let mut heap = Heap::new(places);
     let (status, _) = mark(task, &blind, &mut heap, table, state, action, LIMIT)?;
