@@ -10,20 +10,10 @@ use lib.ListN.{length, take, drop, getD, length-append, length-drop}
 use Rattle.std.specs.Joined.{joined}
 use Rattle.std.proofs.shelf.Lists.{length-take-le, getD-take, getD-drop}
 use Rattle.std.proofs.shelf.Tests.{and-parts, and-from, leb-true, le-leb, ltb-true, lt-ltb}
-use Rattle.sheet_layout.specs.FiniteDomain.{Assignment, Assignments, ValidList, ValidAssignments, assignmentBytes, listBytes, assignmentsBytes, listEnd, listFits, presentPairs, presentList, part, finiteDomainKind}
+use Rattle.sheet_layout.specs.FiniteDomain.{Assignment, Assignments, ValidList, ValidAssignments, assignmentBytes, listBytes, assignmentsBytes, listEnd, listFits, presentPairs, presentList, readPairs, readList, readAssignments, part, finiteDomainKind}
 use Rattle.sheet_layout.specs.Numbers.{Bytes, byteAt}
 use Rattle.sheet_layout.proofs.Bytewise.{next, at-front, past}
 use Rattle.sheet_layout.proofs.Framing.{Decodes}
-
-abbrev pub readPairs : List ℕ → ℕ → ℕ → List Assignment
-readPairs bs zero p = []
-readPairs bs (suc n) p = record { variable = byteAt bs p; value = byteAt bs (p + 1) } ∷ readPairs bs n (p + 2)
-
-abbrev pub readList : List ℕ → ℕ → List Assignment
-readList bs p = readPairs bs (byteAt bs p) (p + 1)
-
-abbrev pub readAssignments : List ℕ → ℕ → Assignments
-readAssignments bs p = record { preconditions = readList bs p; effects = readList bs (listEnd bs p) }
 
 -- the numbers of values in a sheet's head
 abbrev pub countsOf : List ℕ → List ℕ

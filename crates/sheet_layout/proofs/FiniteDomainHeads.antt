@@ -1,18 +1,22 @@
 -- The head of a sheet of variables: what its checks say, in order.
-use mathlib.Core.Path.{_≡_, refl, sym, ap, _∙_}
-use mathlib.Core.Bool.{Bool, true, _&&_, _||_}
+use mathlib.Core.Path.{_≡_, refl, sym, ap, subst, _∙_}
+use mathlib.Core.Bool.{Bool, true, false, _&&_, _||_}
 use mathlib.Core.List.{List, [], _∷_, _++_}
 use mathlib.Core.Logic.{_⊎_, inl, inr, ⊎-elim}
-use Prim.Native.Nat.{ℕ, suc, _+_, _*_, _≤_, _<_}
+use Prim.Native.Nat.{ℕ, suc, _+_, _*_, _≤_, _<_, min}
+use native.Mathlib.Nat.{mul-assoc, mul-le-mul-right}
 use native.Mathlib.Omega.{arith}
 use lib.Dec.{eqb, leb, ltb}
-use lib.ListN.{length}
-use Rattle.std.specs.declared.option.Option.the-variants.{None}
+use lib.ListN.{length, drop, getD}
+use Rattle.std.specs.declared.option.Option.the-variants.{Some, None}
 use Rattle.std.specs.Vec.{Every, Each}
-use Rattle.std.proofs.shelf.Tests.{and-parts, and-from, or-cases, or-left, or-right, leb-true, le-leb, ltb-true, lt-ltb, eqb-true, eq-eqb}
-use Rattle.planning.specs.Checks.{Check, firstFailing}
-use Rattle.planning.proofs.Rows.{passed, pass, after, front}
-use Rattle.sheet_layout.specs.FiniteDomain.{ValidCount, product, countsChecks, valuesChecks, goalValue, finiteDomainHead}
+use Rattle.std.proofs.shelf.Lists.{at-drop-more, at-drop-all, drop-more}
+use Rattle.std.proofs.shelf.Tests.{cases-lt, lt-leb, and-parts, and-from, or-cases, or-left, or-right, leb-true, le-leb, ltb-true, lt-ltb, eqb-true, eq-eqb}
+use Rattle.planning.specs.declared.refusal.Refusal.{Refusal}
+use Rattle.planning.specs.declared.refusal.Refusal.the-variants.{Count, StartOrGoal}
+use Rattle.planning.specs.Checks.{Check, otherwise, firstFailing}
+use Rattle.planning.proofs.Rows.{passed, pass, fail, after, within, front}
+use Rattle.sheet_layout.specs.FiniteDomain.{ValidCount, product, countsChecks, valuesChecks, valueOrAny, finiteDomainHead}
 
 -- none of two rows fails
 both : (cs ds : List Check) → firstFailing (cs ++ ds) ≡ None → (firstFailing cs ≡ None) × (firstFailing ds ≡ None)
@@ -50,10 +54,10 @@ each-length R [] (y ∷ ys) e = absurd e
 each-length R (x ∷ xs) [] e = absurd e
 each-length R (x ∷ xs) (y ∷ ys) e = ap suc (each-length R xs ys (e .1))
 
-goal-says : (v n : ℕ) → goalValue v n ≡ true → (v < n) ⊎ (v ≡ 255)
+goal-says : (v n : ℕ) → valueOrAny v n ≡ true → (v < n) ⊎ (v ≡ 255)
 goal-says v n h = ⊎-elim (λ e. inl (ltb-true v n e)) (λ e. inr (eqb-true v 255 e)) (or-cases (ltb v n) (eqb v 255) h)
 
-goal-holds : (v n : ℕ) → (v < n) ⊎ (v ≡ 255) → goalValue v n ≡ true
+goal-holds : (v n : ℕ) → (v < n) ⊎ (v ≡ 255) → valueOrAny v n ≡ true
 goal-holds v n = ⊎-elim (λ e. or-left (ltb v n) (eqb v 255) (lt-ltb v n e)) (λ e. or-right (ltb v n) (eqb v 255) (eq-eqb v 255 e))
 
 -- the checks of a head, passed
@@ -79,7 +83,7 @@ module _ (variables actions : ℕ) (counts start goal : List ℕ) where
       let size = size-passed h in
       let b = passed _ _ _ (a .1) in
       let count = and-parts _ _ (b .0) in
-      let last = valuesChecks goalValue counts goal (9 + 2 * variables) in
+      let last = valuesChecks valueOrAny counts goal (9 + 2 * variables) in
       let c = both (countsChecks counts 9) _ (b .1) in
       let d = passed (leb (product counts) 65536) _ _ (c .1) in
       let e = both (valuesChecks ltb counts start (9 + variables)) last (d .1) in
@@ -91,7 +95,7 @@ module _ (variables actions : ℕ) (counts start goal : List ℕ) where
         counts = counts-passed counts 9 (c .0);
         few-states = leb-true _ _ (d .0);
         start = values-passed ltb (λ v n. v < n) ltb-true counts start (9 + variables) starts (e .0);
-        goal = values-passed goalValue (λ v n. (v < n) ⊎ (v ≡ 255)) goal-says counts goal (9 + 2 * variables) goals (e .1);
+        goal = values-passed valueOrAny (λ v n. (v < n) ⊎ (v ≡ 255)) goal-says counts goal (9 + 2 * variables) goals (e .1);
       }
 
   pub head-pass : HeadPassed variables actions counts start goal → firstFailing (finiteDomainHead variables actions counts start goal) ≡ None
@@ -101,4 +105,79 @@ module _ (variables actions : ℕ) (counts start goal : List ℕ) where
       ∙ after (countsChecks counts 9) _ (counts-pass counts 9 (h .counts))
       ∙ pass (leb (product counts) 65536) _ _ (le-leb (product counts) 65536 (h .few-states))
       ∙ after (valuesChecks ltb counts start (9 + variables)) _ (values-pass ltb (λ v n. v < n) lt-ltb counts start (9 + variables) (h .start))
-      ∙ values-pass goalValue (λ v n. (v < n) ⊎ (v ≡ 255)) goal-holds counts goal (9 + 2 * variables) (h .goal)
+      ∙ values-pass valueOrAny (λ v n. (v < n) ⊎ (v ≡ 255)) goal-holds counts goal (9 + 2 * variables) (h .goal)
+
+-- the checks of the lists from their i-th element on
+pub counts-on : (ns : List ℕ) (i p : ℕ) → i < length ns → firstFailing (countsChecks (drop i ns) p) ≡ otherwise (leb 2 (getD ns i 0) && leb (getD ns i 0) 16) (Count p) (firstFailing (countsChecks (drop (i + 1) ns) (p + 1)))
+counts-on ns i p h = at-drop-more (λ l. firstFailing (countsChecks l p)) ns i 0 h
+
+pub counts-end : (ns : List ℕ) (i p : ℕ) → length ns ≤ i → firstFailing (countsChecks (drop i ns) p) ≡ None
+counts-end ns i p h = at-drop-all (λ l. firstFailing (countsChecks l p)) ns i h
+
+module _ (passing : ℕ → ℕ → Bool) (ns vs : List ℕ) (same : length vs ≡ length ns) where
+  pub values-on : (i p : ℕ) → i < length ns → firstFailing (valuesChecks passing (drop i ns) (drop i vs) p) ≡ otherwise (passing (getD vs i 0) (getD ns i 0)) (StartOrGoal p) (firstFailing (valuesChecks passing (drop (i + 1) ns) (drop (i + 1) vs) (p + 1)))
+  values-on i p h =
+      let a = drop-more ns i 0 h in
+      let b = drop-more vs i 0 (omega arith) in
+      λ j. firstFailing (valuesChecks passing (a j) (b j) p)
+
+  pub values-end : (i p : ℕ) → length ns ≤ i → firstFailing (valuesChecks passing (drop i ns) (drop i vs) p) ≡ None
+  values-end i p h = at-drop-all (λ l. firstFailing (valuesChecks passing l (drop i vs) p)) ns i h
+
+-- where no value stands for any, the test is the plain one
+pub values-plain : (ns vs : List ℕ) (p : ℕ) → valuesChecks (λ v n. ltb v n || (false && eqb v 255)) ns vs p ≡ valuesChecks ltb ns vs p
+values-plain ns vs p = λ i. valuesChecks (λ v n. or-false (ltb v n) i) ns vs p
+  where
+    or-false : (b : Bool) → (b || false) ≡ b
+    or-false true = refl
+    or-false false = refl
+
+-- the row of a head's checks, check by check
+module _ (d m : ℕ) (ns vs gs : List ℕ) (size : (1 ≤ d) × (d ≤ 16)) (few : (1 ≤ m) × (m ≤ 512)) where
+  values-row : List Check
+  values-row = valuesChecks ltb ns vs (9 + d) ++ valuesChecks valueOrAny ns gs (9 + 2 * d)
+
+  counts-row : firstFailing (finiteDomainHead d m ns vs gs) ≡ firstFailing (countsChecks ns 9 ++ (record { passes = leb (product ns) 65536; refusal = Count 6 } ∷ values-row))
+  unfolding values-row
+  counts-row =
+      pass _ _ _ (and-from _ _ (le-leb _ _ (size .0)) (le-leb _ _ (size .1))) ∙ pass _ _ _ (and-from _ _ (le-leb _ _ (few .0)) (le-leb _ _ (few .1)))
+
+  pub counts-fail : (r : Refusal) → firstFailing (countsChecks ns 9) ≡ Some r → firstFailing (finiteDomainHead d m ns vs gs) ≡ Some r
+  counts-fail r e = counts-row ∙ within (countsChecks ns 9) _ r e
+
+  module _ (counted : firstFailing (countsChecks ns 9) ≡ None) where
+    product-row : firstFailing (finiteDomainHead d m ns vs gs) ≡ otherwise (leb (product ns) 65536) (Count 6) (firstFailing values-row)
+    product-row = counts-row ∙ after (countsChecks ns 9) _ counted
+
+    pub product-fail : 65536 < product ns → firstFailing (finiteDomainHead d m ns vs gs) ≡ Some (Count 6)
+    product-fail h = product-row ∙ fail (leb (product ns) 65536) _ _ (lt-leb (product ns) 65536 h)
+
+    module _ (states : product ns ≤ 65536) where
+      pub start-row : firstFailing (finiteDomainHead d m ns vs gs) ≡ firstFailing (valuesChecks ltb ns vs (9 + d) ++ valuesChecks valueOrAny ns gs (9 + 2 * d))
+      unfolding values-row
+      start-row = product-row ∙ pass (leb (product ns) 65536) _ _ (le-leb (product ns) 65536 states)
+
+-- every number of values is at least one, so no product is 0
+pub product-some : (ns : List ℕ) → Every ValidCount ns → 1 ≤ product ns
+product-some [] v = omega arith
+product-some (n ∷ ns) v =
+    let more = product-some ns (v .1) in
+    let some = v .0 .two in
+    omega (arith, mul-le-mul-right (product ns) some)
+
+-- a product that stops at a bound on the way stops there at the end
+pub capped : (s n p : ℕ) → 1 ≤ p → min (min (s * n) 65537 * p) 65537 ≡ min (s * (n * p)) 65537
+capped s n p some =
+    ⊎-elim
+    (λ (le : s * n < 65537). let e : min (s * n) 65537 ≡ s * n = omega arith in ap (λ k. min (k * p) 65537) e ∙ ap (λ k. min k 65537) (mul-assoc s n p))
+    (λ (ge : 65537 ≤ s * n).
+    let e : min (s * n) 65537 ≡ 65537 = omega arith in
+    let f = mul-le-mul-right p ge in
+    ap (λ k. min (k * p) 65537) e ∙ omega (arith, f, mul-assoc s n p))
+    (cases-lt (s * n) 65537)
+
+pub every-drop : (P : ℕ → Type 0) (ns : List ℕ) (i : ℕ) → i < length ns → Every P (drop i ns) → P (getD ns i 0) × Every P (drop (i + 1) ns)
+every-drop P ns i h e = subst (Every P) (drop-more ns i 0 h) e
+
+pub counted-valid : (ns : List ℕ) → firstFailing (countsChecks ns 9) ≡ None → Every ValidCount ns
+counted-valid ns h = counts-passed ns 9 h

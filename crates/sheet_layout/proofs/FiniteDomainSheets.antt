@@ -14,8 +14,8 @@ use Rattle.planning.specs.Checks.{firstFailing}
 use Rattle.planning.proofs.Rows.{after, front}
 use Rattle.sheet_layout.specs.Frame.{ValidAction, recordBytes, recordsChecks, headOf, headLength, sheetBytes}
 use Rattle.sheet_layout.specs.Numbers.{Bytes, byteAt, num16}
-use Rattle.sheet_layout.specs.FiniteDomain.{Assignments, FiniteDomainContent, ValidAssignments, ValidFiniteDomain, assignmentsBytes, finiteDomainBytes, finiteDomainKind, finiteDomainHead, finiteDomainHeadChecks, finiteDomainChecks, part}
-use Rattle.sheet_layout.proofs.Assigning.{readAssignments, countsOf, part-length, assignments-short, assignments-decode}
+use Rattle.sheet_layout.specs.FiniteDomain.{Assignments, FiniteDomainContent, ValidAssignments, ValidFiniteDomain, assignmentsBytes, finiteDomainBytes, finiteDomainKind, finiteDomainHead, finiteDomainHeadChecks, finiteDomainChecks, readAssignments, part}
+use Rattle.sheet_layout.proofs.Assigning.{countsOf, part-length, assignments-short, assignments-decode}
 use Rattle.sheet_layout.proofs.Bytewise.{past}
 use Rattle.sheet_layout.proofs.FiniteDomainHeads.{HeadPassed, size-passed, head-passed, head-pass, each-length}
 use Rattle.sheet_layout.proofs.Framing.{actionsFrom, records-sound, records-complete}

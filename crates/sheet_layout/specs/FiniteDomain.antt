@@ -97,6 +97,19 @@ presentPairs bs (suc n) p least =
 abbrev pub presentList : List ℕ → ℕ → Bool
 presentList bs p = presentPairs bs (byteAt bs p) (p + 1) 0
 
+-- n pairs that stand from p on
+abbrev pub readPairs : List ℕ → ℕ → ℕ → List Assignment
+readPairs bs zero p = []
+readPairs bs (suc n) p = record { variable = byteAt bs p; value = byteAt bs (p + 1) } ∷ readPairs bs n (p + 2)
+
+-- the list that begins at p
+abbrev pub readList : List ℕ → ℕ → List Assignment
+readList bs p = readPairs bs (byteAt bs p) (p + 1)
+
+-- the two lists of which the first begins at p
+abbrev pub readAssignments : List ℕ → ℕ → Assignments
+readAssignments bs p = record { preconditions = readList bs p; effects = readList bs (listEnd bs p) }
+
 abbrev pub finiteDomainKind : KindOf
 finiteDomainKind = record {
   code = 2;
@@ -116,9 +129,9 @@ valuesChecks passing [] vs p = []
 valuesChecks passing (n ∷ ns) [] p = []
 valuesChecks passing (n ∷ ns) (v ∷ vs) p = record { passes = passing v n; refusal = StartOrGoal p } ∷ valuesChecks passing ns vs (p + 1)
 
--- a value of the goal: one of the variable's, or any
-abbrev pub goalValue : ℕ → ℕ → Bool
-goalValue v n = ltb v n || eqb v 255
+-- one of the values of a variable, or 255 for any
+abbrev pub valueOrAny : ℕ → ℕ → Bool
+valueOrAny v n = ltb v n || eqb v 255
 
 -- the checks of the counts, the start and the goal
 abbrev pub finiteDomainHead : ℕ → ℕ → List ℕ → List ℕ → List ℕ → List Check
@@ -127,7 +140,7 @@ finiteDomainHead variables actions counts start goal =
     ∷ actionsCheck actions
     ∷ (countsChecks counts 9
     ++ (record { passes = leb (product counts) 65536; refusal = Count 6 }
-    ∷ (valuesChecks ltb counts start (9 + variables) ++ valuesChecks goalValue counts goal (9 + 2 * variables))))
+    ∷ (valuesChecks ltb counts start (9 + variables) ++ valuesChecks valueOrAny counts goal (9 + 2 * variables))))
 
 -- the numbers that stand in n bytes from a place on
 abbrev pub part : List ℕ → ℕ → ℕ → List ℕ

@@ -1,5 +1,6 @@
 // Sheets: reading puzzles from their bytes, and the tasks that they describe.
 mod bytes;
+pub mod finite_domain;
 mod frame;
 pub mod head;
 pub mod record;

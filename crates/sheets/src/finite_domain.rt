@@ -1,0 +1,110 @@
+// Sheets of variables with several values: finite-domain tasks.
+ghost use mathlib.Core.Path.{_≡_};
+ghost use mathlib.Core.Bool.{cond, _&&_, _||_};
+ghost use Prim.Native.Nat.{ℕ, _+_, _*_, _≤_, min};
+ghost use lib.Dec.{ltb, eqb};
+ghost use lib.ListN.{length, getD, take};
+ghost use Rattle.std.specs.Vec.{Every};
+ghost use Rattle.planning.specs.Checks.{firstFailing};
+ghost use Rattle.planning.specs.Outcomes.{Answers};
+ghost use Rattle.sheet_layout.specs.FiniteDomain.{ValidCount, product, countsChecks, valuesChecks, finiteDomainHead};
+ghost use Rattle.sheet_layout.specs.Numbers.{byteAt};
+use crate::bytes::byte_at;
+use crate::head::FiniteDomainHead;
+use planning::refusal::Refusal;
+
+// The numbers of values of the variables, which stand from byte 9 on.
+fn check_counts(counts: &[u8]) -> Result<(), Refusal>
+    requires { ⌜ length (now counts) ≤ 16 ⌝ }
+    ensures { λ r. ⌜ Answers (firstFailing (countsChecks (now (counts .entry)) 9)) (λ _. Unit {0}) r ⌝ }
+{
+    for i in 0..counts.len() {
+        let count = counts[i];
+        if count < 2 || count > 16 {
+            return Err(Refusal::Count { byte: 9 + i });
+        }
+    }
+    Ok(())
+}
+
+// Whether a value is one of a variable's, or stands for any where that is allowed.
+fn is_value(value: u8, count: u8, any: bool) -> bool
+    ensures { λ r. ⌜ r ≡ (ltb value count || (any && eqb value 255)) ⌝ }
+{
+    value < count || any && value == 255
+}
+
+// The values of the variables, which stand from a byte on: each one of its variable's, or any where that is allowed.
+fn check_values(counts: &[u8], values: &[u8], any: bool, first: usize) -> Result<(), Refusal>
+    requires few { ⌜ length (now counts) ≤ 16 ⌝ }
+    requires same { ⌜ length (now values) ≡ length (now counts) ⌝ }
+    requires place { ⌜ first ≤ 41 ⌝ }
+    ensures { λ r. ⌜ Answers (firstFailing (valuesChecks (λ v n. ltb v n || (any && eqb v 255)) (now (counts .entry)) (now (values .entry)) first)) (λ _. Unit {0}) r ⌝ }
+{
+    for i in 0..counts.len() {
+        if !is_value(values[i], counts[i], any) {
+            return Err(Refusal::StartOrGoal { byte: first + i });
+        }
+    }
+    Ok(())
+}
+
+// The number of states, or 65,537 where there are more.
+fn count_states(counts: &[u8]) -> u32
+    requires { ⌜ Every ValidCount (now counts) ⌝ }
+    ensures { λ r. ⌜ r ≡ min (product (now (counts .entry))) 65537 ⌝ }
+{
+    let mut states = 1;
+    for count in counts {
+        states = (states * *count as u32).min(65537);
+    }
+    states
+}
+
+impl FiniteDomainHead {
+    // Of each list only the first `variables` values count.
+    pub fn new(
+        variables: u8,
+        actions: u16,
+        counts: [u8; 16],
+        start: [u8; 16],
+        goal: [u8; 16],
+    ) -> Result<FiniteDomainHead, Refusal>
+        ensures { λ r. ⌜ Answers (firstFailing (finiteDomainHead variables actions (take variables counts) (take variables start) (take variables goal))) (λ h. (h .variables ≡ variables) × (h .actions ≡ actions) × (h .counts ≡ counts) × (h .start ≡ start) × (h .goal ≡ goal)) r ⌝ }
+    {
+        if variables < 1 || variables > 16 {
+            return Err(Refusal::Count { byte: 6 });
+        }
+        if actions < 1 || actions > 512 {
+            return Err(Refusal::Count { byte: 7 });
+        }
+        let d = variables as usize;
+        check_counts(&counts[0..d])?;
+        let states = count_states(&counts[0..d]);
+        if states > 65536 {
+            return Err(Refusal::Count { byte: 6 });
+        }
+        check_values(&counts[0..d], &start[0..d], false, 9 + d)?;
+        check_values(&counts[0..d], &goal[0..d], true, 9 + 2 * d)?;
+        Ok(FiniteDomainHead {
+            variables,
+            actions,
+            states,
+            counts,
+            start,
+            goal,
+        })
+    }
+}
+
+// Sixteen bytes, of which the first `count` are those of a sheet from a place on and the others 0.
+fn sixteen(sheet: &[u8], at: usize, count: usize) -> [u8; 16]
+    requires { ⌜ at ≤ 1000 ⌝ }
+    ensures { λ r. ⌜ (length r ≡ 16) × ((k : ℕ) → getD r k 0 ≡ cond (ltb k (min count 16)) (byteAt (now (sheet .entry)) (at + k)) 0) ⌝ }
+{
+    let mut bytes = [0; 16];
+    for i in 0..count.min(16) {
+        bytes[i] = byte_at(sheet, at + i);
+    }
+    bytes
+}
