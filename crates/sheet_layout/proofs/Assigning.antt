@@ -10,7 +10,7 @@ use lib.ListN.{length, take, drop, getD, length-append, length-drop}
 use Rattle.std.specs.Joined.{joined}
 use Rattle.std.proofs.shelf.Lists.{length-take-le, getD-take, getD-drop}
 use Rattle.std.proofs.shelf.Tests.{and-parts, and-from, leb-true, le-leb, ltb-true, lt-ltb}
-use Rattle.sheet_layout.specs.FiniteDomain.{Assignment, Assignments, ValidList, ValidAssignments, assignmentBytes, listBytes, assignmentsBytes, listEnd, listFits, presentPairs, presentList, readPairs, readList, readAssignments, part, finiteDomainKind}
+use Rattle.sheet_layout.specs.FiniteDomain.{Assignment, Assignments, ValidList, ValidAssignments, assignmentBytes, listBytes, assignmentsBytes, listEnd, listFits, presentPair, presentPairs, presentList, readPairs, readList, readAssignments, part, finiteDomainKind}
 use Rattle.sheet_layout.specs.Numbers.{Bytes, byteAt}
 use Rattle.sheet_layout.proofs.Bytewise.{next, at-front, past}
 use Rattle.sheet_layout.proofs.Framing.{Decodes}
@@ -71,14 +71,14 @@ module _ (bs : List ℕ) (long : 9 + byteAt bs 6 ≤ length bs) where
   pub pairs-valid : (n p least : ℕ) → presentPairs bs n p least ≡ true → ValidList (countsOf bs) least (readPairs bs n p)
   pairs-valid zero p least h = tt
   pairs-valid (suc n) p least h =
-      let a = and-parts _ _ h in
-      let b = and-parts _ _ (a .1) in
+      let a = and-parts (presentPair bs p least) _ h in
+      let b = and-parts _ _ (a .0) in
       let c = and-parts _ _ (b .1) in
-      let low = ltb-true (byteAt bs p) (byteAt bs 6) (b .0) in (
-        leb-true _ _ (a .0),
+      let low = ltb-true (byteAt bs p) (byteAt bs 6) (c .0) in (
+        leb-true _ _ (b .0),
         omega (arith, counted, low),
-        rw (part-at bs 9 (byteAt bs 6) (byteAt bs p) low) (ltb-true _ _ (c .0)),
-        pairs-valid n (p + 2) (byteAt bs p + 1) (c .1),
+        rw (part-at bs 9 (byteAt bs 6) (byteAt bs p) low) (ltb-true _ _ (c .1)),
+        pairs-valid n (p + 2) (byteAt bs p + 1) (a .1),
       )
 
   -- valid pairs that were written pass, and are read back
@@ -91,10 +91,10 @@ module _ (bs : List ℕ) (long : 9 + byteAt bs 6 ≤ length bs) where
       let count : getD (countsOf bs) (x .variable) 0 ≡ byteAt bs (9 + byteAt bs p) = ap (λ i. getD (countsOf bs) i 0) (sym variable) ∙ part-at bs 9 (byteAt bs 6) (byteAt bs p) low in
       let tail : drop (p + 2) bs ≡ joined assignmentBytes xs ++ rest = past bs p 2 (assignmentBytes x) (joined assignmentBytes xs ++ rest) at refl in
       let more = pairs-back xs (p + 2) (x .variable + 1) rest (v .3) tail in (
-        and-from _ _ (le-leb least (byteAt bs p) (omega (arith, variable, v .0)))
-            (and-from _ _ (lt-ltb (byteAt bs p) (byteAt bs 6) low)
-            (and-from _ _ (lt-ltb (byteAt bs (p + 1)) (byteAt bs (9 + byteAt bs p)) (omega (arith, value, count, v .2)))
-            (ap (λ n. presentPairs bs (length xs) (p + 2) (n + 1)) variable ∙ more .0))),
+        and-from (presentPair bs p least) _
+            (and-from _ _ (le-leb least (byteAt bs p) (omega (arith, variable, v .0)))
+            (and-from _ _ (lt-ltb (byteAt bs p) (byteAt bs 6) low) (lt-ltb (byteAt bs (p + 1)) (byteAt bs (9 + byteAt bs p)) (omega (arith, value, count, v .2)))))
+            (ap (λ n. presentPairs bs (length xs) (p + 2) (n + 1)) variable ∙ more .0),
         (λ i. record { variable = variable i; value = value i } ∷ more .1 i),
       )
 
@@ -146,3 +146,10 @@ module _ (bs : List ℕ) (long : 9 + byteAt bs 6 ≤ length bs) where
         );
     short = assignments-short (countsOf bs) (omega (arith, counted));
   }
+
+-- pairs one by one
+pub present-on : (bs : List ℕ) (n i p least : ℕ) → i < n → presentPairs bs (n - i) (p + 2 * i) least ≡ (presentPair bs (p + 2 * i) least && presentPairs bs (n - (i + 1)) (p + 2 * (i + 1)) (byteAt bs (p + 2 * i) + 1))
+present-on bs n i p least h =
+    let e : n - i ≡ suc (n - (i + 1)) = omega arith in
+    let f : p + 2 * i + 2 ≡ p + 2 * (i + 1) = omega arith in
+    ap (λ m. presentPairs bs m (p + 2 * i) least) e ∙ ap (λ q. presentPair bs (p + 2 * i) least && presentPairs bs (n - (i + 1)) q (byteAt bs (p + 2 * i) + 1)) f

@@ -48,7 +48,7 @@ part-written : (bs : List ℕ) (p n : ℕ) (xs rest : List ℕ) → drop p bs �
 part-written bs p n xs rest e h = ap (take n) e ∙ take-at xs rest n h
 
 -- a head of variables is 9 bytes and three for each
-variables-head : (bs : List ℕ) → byteAt bs 5 ≡ 2 → 1 ≤ byteAt bs 6 → byteAt bs 6 ≤ 16 → headOf bs ≡ recordsAt bs
+pub variables-head : (bs : List ℕ) → byteAt bs 5 ≡ 2 → 1 ≤ byteAt bs 6 → byteAt bs 6 ≤ 16 → headOf bs ≡ recordsAt bs
 variables-head bs e some few =
     ap (λ n. headLength n (byteAt bs 6)) e ∙ cond-true _ (9 + 3 * byteAt bs 6) 9 (and-from _ _ (le-leb _ _ some) (le-leb _ _ few))
 

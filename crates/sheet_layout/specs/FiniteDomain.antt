@@ -87,12 +87,15 @@ listEnd bs p = p + 1 + 2 * byteAt bs p
 abbrev pub listFits : List ℕ → ℕ → ℕ → Bool
 listFits bs p end = ltb p end && (leb (byteAt bs p) (byteAt bs 6) && leb (listEnd bs p) end)
 
--- n pairs from p on name variables and values that are there; the variables rise strictly, the first is at least `least`
+-- the pair at p names a variable that is there and at least `least`, and a value that is there
+abbrev pub presentPair : List ℕ → ℕ → ℕ → Bool
+presentPair bs p least =
+    leb least (byteAt bs p) && (ltb (byteAt bs p) (byteAt bs 6) && ltb (byteAt bs (p + 1)) (byteAt bs (9 + byteAt bs p)))
+
+-- n pairs from p on do, and their variables rise strictly
 abbrev pub presentPairs : List ℕ → ℕ → ℕ → ℕ → Bool
 presentPairs bs zero p least = true
-presentPairs bs (suc n) p least =
-    leb least (byteAt bs p)
-    && (ltb (byteAt bs p) (byteAt bs 6) && (ltb (byteAt bs (p + 1)) (byteAt bs (9 + byteAt bs p)) && presentPairs bs n (p + 2) (byteAt bs p + 1)))
+presentPairs bs (suc n) p least = presentPair bs p least && presentPairs bs n (p + 2) (byteAt bs p + 1)
 
 abbrev pub presentList : List ℕ → ℕ → Bool
 presentList bs p = presentPairs bs (byteAt bs p) (p + 1) 0

@@ -1,4 +1,5 @@
 pub mod FactSets
+pub mod FiniteDomainVerdicts
 pub mod Shifts
 pub mod StripsLaws
 pub mod StripsSteps

@@ -1,3 +1,4 @@
+pub mod FiniteDomainReading
 pub mod Reading
 pub mod Records
 pub mod StripsTasks

@@ -7,11 +7,23 @@ ghost use lib.ListN.{length, getD, take};
 ghost use Rattle.std.specs.Vec.{Every};
 ghost use Rattle.planning.specs.Checks.{firstFailing};
 ghost use Rattle.planning.specs.Outcomes.{Answers};
-ghost use Rattle.sheet_layout.specs.FiniteDomain.{ValidCount, product, countsChecks, valuesChecks, finiteDomainHead};
+ghost use Rattle.sheet_layout.specs.FiniteDomain.{ValidCount, product, countsChecks, valuesChecks, finiteDomainHead, listEnd, listFits, presentPair, presentPairs, finiteDomainKind, finiteDomainChecks};
+ghost use Rattle.sheets.specs.FiniteDomainReading.{FiniteDomainHeadAt, FiniteDomainChecked, FiniteDomainUnique};
+ghost use Rattle.std.specs.declared.option.Option.the-variants.{Some, None};
 ghost use Rattle.sheet_layout.specs.Numbers.{byteAt};
 use crate::bytes::byte_at;
+use crate::frame::SheetKind;
+use crate::frame::check_opening;
+use crate::frame::check_records;
 use crate::head::FiniteDomainHead;
 use planning::refusal::Refusal;
+
+// What an action needs, and what it sets: values by variable, 255 for the variables that it does not name.
+#[derive(Clone, Copy, PartialEq, Eq, Debug)]
+pub struct FiniteDomainAction {
+    pub preconditions: [u8; 16],
+    pub effects: [u8; 16],
+}
 
 // The numbers of values of the variables, which stand from byte 9 on.
 fn check_counts(counts: &[u8]) -> Result<(), Refusal>
@@ -97,6 +109,71 @@ impl FiniteDomainHead {
     }
 }
 
+// Whether the pair at a place names a variable that is there and at least `least`, and a value that is there.
+fn pair_present(sheet: &[u8], at: usize, least: u8) -> bool
+    requires { ⌜ at + 2 ≤ length (now sheet) ⌝ }
+    ensures { λ r. ⌜ r ≡ presentPair (now (sheet .entry)) at least ⌝ }
+{
+    let variable = sheet[at];
+    least <= variable
+        && variable < byte_at(sheet, 6)
+        && sheet[at + 1] < byte_at(sheet, 9 + variable as usize)
+}
+
+// Whether pairs do, their variables rising strictly.
+fn pairs_present(sheet: &[u8], count: u8, first: usize) -> bool
+    requires { ⌜ first + 2 * count ≤ length (now sheet) ⌝ }
+    ensures { λ r. ⌜ r ≡ presentPairs (now (sheet .entry)) count first 0 ⌝ }
+{
+    let mut least = 0;
+    for i in 0..count as usize {
+        let at = first + 2 * i;
+        if !pair_present(sheet, at, least) {
+            return false;
+        }
+        least = sheet[at] + 1;
+    }
+    true
+}
+
+// Where the list that begins at a place ends, if it is no longer than there are variables and lies before an end.
+fn list_end(sheet: &[u8], at: usize, end: usize) -> Option<usize>
+    requires { ⌜ end ≤ length (now sheet) ⌝ }
+    ensures { λ r. ⌜ r ≡ cond (listFits (now (sheet .entry)) at end) (Some (listEnd (now (sheet .entry)) at)) None ⌝ }
+{
+    if at >= end {
+        return None;
+    }
+    let count = sheet[at];
+    let next = at + 1 + 2 * count as usize;
+    if count > byte_at(sheet, 6) || next > end {
+        return None;
+    }
+    Some(next)
+}
+
+// The kind of sheet that is made of variables.
+pub(crate) struct Variables;
+
+pub(crate) impl SheetKind for Variables as VariablesKind {
+    ghost kind = { finiteDomainKind };
+
+    fn code() -> u8 {
+        2
+    }
+
+    fn ending(sheet: &[u8], at: usize, end: usize) -> Option<usize> {
+        let effects = list_end(sheet, at, end)?;
+        list_end(sheet, effects, end)
+    }
+
+    fn present(sheet: &[u8], at: usize) -> bool {
+        let count = sheet[at];
+        let effects = at + 1 + 2 * count as usize;
+        pairs_present(sheet, count, at + 1) && pairs_present(sheet, sheet[effects], effects + 1)
+    }
+}
+
 // Sixteen bytes, of which the first `count` are those of a sheet from a place on and the others 0.
 fn sixteen(sheet: &[u8], at: usize, count: usize) -> [u8; 16]
     requires { ⌜ at ≤ 1000 ⌝ }
@@ -107,4 +184,29 @@ fn sixteen(sheet: &[u8], at: usize, count: usize) -> [u8; 16]
         bytes[i] = byte_at(sheet, at + i);
     }
     bytes
+}
+
+// The checks of a sheet of variables, and its head by the places of its numbers.
+pub(crate) fn verify_finite_domain(sheet: &[u8]) -> Result<FiniteDomainHead, Refusal>
+    ensures { λ r. ⌜ Answers (firstFailing (finiteDomainChecks (now (sheet .entry)))) (FiniteDomainHeadAt (now (sheet .entry))) r ⌝ }
+{
+    let opening = check_opening::<VariablesKind>(sheet)?;
+    let d = opening.size as usize;
+    let head = FiniteDomainHead::new(
+        opening.size,
+        opening.actions,
+        sixteen(sheet, 9, d),
+        sixteen(sheet, 9 + d, d),
+        sixteen(sheet, 9 + 2 * d, d),
+    )?;
+    check_records::<VariablesKind>(sheet, head.actions, 9 + 3 * d)?;
+    Ok(head)
+}
+
+// A whole sheet of variables, altering nothing.
+pub fn check_finite_domain(sheet: &[u8]) -> Result<FiniteDomainHead, Refusal>
+    ensures checked { λ r. ⌜ FiniteDomainChecked (now (sheet .entry)) r ⌝ }
+    ensures unique { λ _. ⌜ FiniteDomainUnique (now (sheet .entry)) ⌝ }
+{
+    verify_finite_domain(sheet)
 }
