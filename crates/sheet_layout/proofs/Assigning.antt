@@ -153,3 +153,9 @@ present-on bs n i p least h =
     let e : n - i ≡ suc (n - (i + 1)) = omega arith in
     let f : p + 2 * i + 2 ≡ p + 2 * (i + 1) = omega arith in
     ap (λ m. presentPairs bs m (p + 2 * i) least) e ∙ ap (λ q. presentPair bs (p + 2 * i) least && presentPairs bs (n - (i + 1)) q (byteAt bs (p + 2 * i) + 1)) f
+
+pub pairs-on : (bs : List ℕ) (n i p : ℕ) → i < n → readPairs bs (n - i) (p + 2 * i) ≡ record { variable = byteAt bs (p + 2 * i); value = byteAt bs (p + 2 * i + 1) } ∷ readPairs bs (n - (i + 1)) (p + 2 * (i + 1))
+pairs-on bs n i p h =
+    let e : n - i ≡ suc (n - (i + 1)) = omega arith in
+    let f : p + 2 * i + 2 ≡ p + 2 * (i + 1) = omega arith in
+    ap (λ m. readPairs bs m (p + 2 * i)) e ∙ ap (λ q. record { variable = byteAt bs (p + 2 * i); value = byteAt bs (p + 2 * i + 1) } ∷ readPairs bs (n - (i + 1)) q) f

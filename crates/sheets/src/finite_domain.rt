@@ -7,11 +7,15 @@ ghost use lib.ListN.{length, getD, take};
 ghost use Rattle.std.specs.Vec.{Every};
 ghost use Rattle.planning.specs.Checks.{firstFailing};
 ghost use Rattle.planning.specs.Outcomes.{Answers};
-ghost use Rattle.sheet_layout.specs.FiniteDomain.{ValidCount, product, countsChecks, valuesChecks, finiteDomainHead, listEnd, listFits, presentPair, presentPairs, finiteDomainKind, finiteDomainChecks};
-ghost use Rattle.sheets.specs.FiniteDomainReading.{FiniteDomainHeadAt, FiniteDomainChecked, FiniteDomainUnique};
+ghost use Rattle.sheet_layout.specs.FiniteDomain.{ValidCount, product, countsChecks, valuesChecks, finiteDomainHead, listEnd, listFits, presentPair, presentPairs, presentList, readList, readAssignments, finiteDomainKind, finiteDomainChecks, FiniteDomainContent};
+ghost use Rattle.sheets.specs.FiniteDomainReading.{FiniteDomainSheet, FiniteDomainHeadAt, FiniteDomainChecked, FiniteDomainUnique, valuesNamed, does, entered, FiniteDomainReadInto};
+ghost use Rattle.sheets.specs.Reading.{Filled, priced};
+ghost use mathlib.Core.Bool.{true};
 ghost use Rattle.std.specs.declared.option.Option.the-variants.{Some, None};
-ghost use Rattle.sheet_layout.specs.Numbers.{byteAt};
+ghost use Rattle.sheet_layout.specs.Numbers.{byteAt, num16};
 use crate::bytes::byte_at;
+use crate::bytes::u16_at;
+use crate::bytes::u32_at;
 use crate::frame::SheetKind;
 use crate::frame::check_opening;
 use crate::frame::check_records;
@@ -209,4 +213,65 @@ pub fn check_finite_domain(sheet: &[u8]) -> Result<FiniteDomainHead, Refusal>
     ensures unique { λ _. ⌜ FiniteDomainUnique (now (sheet .entry)) ⌝ }
 {
     verify_finite_domain(sheet)
+}
+
+// The list that begins at a place, as values by variable.
+fn named_at(sheet: &[u8], at: usize) -> [u8; 16]
+    requires inside { ⌜ listEnd (now sheet) at ≤ length (now sheet) ⌝ }
+    requires few { ⌜ byteAt (now sheet) 6 ≤ 16 ⌝ }
+    requires present { ⌜ presentList (now sheet) at ≡ true ⌝ }
+    ensures { λ r. ⌜ r ≡ valuesNamed (readList (now (sheet .entry)) at) ⌝ }
+{
+    let mut values = [255; 16];
+    for i in 0..sheet[at] as usize {
+        let pair = at + 1 + 2 * i;
+        values[sheet[pair] as usize] = sheet[pair + 1];
+    }
+    values
+}
+
+// What the action whose lists begin at a place needs and sets.
+fn lists_at(sheet: &[u8], at: usize) -> FiniteDomainAction
+    requires inside { ⌜ listEnd (now sheet) (listEnd (now sheet) at) ≤ length (now sheet) ⌝ }
+    requires few { ⌜ byteAt (now sheet) 6 ≤ 16 ⌝ }
+    requires present { ⌜ presentList (now sheet) at ≡ true ⌝ ∗ ⌜ presentList (now sheet) (listEnd (now sheet) at) ≡ true ⌝ }
+    ensures { λ r. ⌜ r ≡ does (readAssignments (now (sheet .entry)) at) ⌝ }
+{
+    let effects = at + 1 + 2 * sheet[at] as usize;
+    FiniteDomainAction {
+        preconditions: named_at(sheet, at),
+        effects: named_at(sheet, effects),
+    }
+}
+
+// Copies the records of a sheet that passed its checks.
+fn fill(sheet: &[u8], count: u16, actions: &mut [FiniteDomainAction], prices: &mut [u32])
+    requires passes { ⌜ firstFailing (finiteDomainChecks (now sheet)) ≡ None ⌝ }
+    requires count { ⌜ count ≡ num16 (now sheet) 7 ⌝ }
+    requires room { ⌜ count ≤ length (now actions) ⌝ ∗ ⌜ count ≤ length (now prices) ⌝ }
+    ensures { λ _. ⌜ ((c : FiniteDomainContent) → FiniteDomainSheet (now (sheet .entry)) c → Filled entered (c .actions) (now (actions .entry)) (now (actions .exit)) × Filled priced (c .actions) (now (prices .entry)) (now (prices .exit))) ⌝ }
+{
+    let mut at = 9 + 3 * byte_at(sheet, 6) as usize;
+    for i in 0..count as usize {
+        actions[i] = lists_at(sheet, at + 6);
+        prices[i] = u32_at(sheet, at + 2);
+        at = at + 2 + u16_at(sheet, at) as usize;
+    }
+}
+
+// A whole sheet of variables into the caller's tables, which a refusal leaves untouched.
+pub fn read_finite_domain(
+    sheet: &[u8],
+    actions: &mut [FiniteDomainAction],
+    prices: &mut [u32],
+) -> Result<FiniteDomainHead, Refusal>
+    ensures { λ r. ⌜ FiniteDomainReadInto (now (sheet .entry)) (now (actions .entry)) (now (prices .entry)) (now (actions .exit)) (now (prices .exit)) r ⌝ }
+{
+    let head = verify_finite_domain(sheet)?;
+    let needed = head.actions as usize;
+    if actions.len() < needed || prices.len() < needed {
+        return Err(Refusal::Short { needed });
+    }
+    fill(sheet, head.actions, actions, prices);
+    Ok(head)
 }
