@@ -71,29 +71,60 @@ pub record HeadPassed (d m : ℕ) (ns vs gs : List ℕ) : Type 0 where
   pub start : Each (λ v n. v < n) vs ns
   pub goal : Each (λ v n. (v < n) ⊎ (v ≡ 255)) gs ns
 
+-- what they say of the counts alone
+pub record CountsPassed (d m : ℕ) (ns : List ℕ) : Type 0 where
+  pub some-variable : 1 ≤ d
+  pub few-variables : d ≤ 16
+  pub some-action : 1 ≤ m
+  pub few-actions : m ≤ 512
+  pub counts : Every ValidCount ns
+  pub few-states : product ns ≤ 65536
+
 module _ (variables actions : ℕ) (counts start goal : List ℕ) where
   pub size-passed : firstFailing (finiteDomainHead variables actions counts start goal) ≡ None → (1 ≤ variables) × (variables ≤ 16)
   size-passed h =
       let a = and-parts _ _ (passed _ _ _ h .0) in
       (leb-true _ _ (a .0), leb-true _ _ (a .1))
 
-  pub head-passed : length start ≡ length counts → length goal ≡ length counts → firstFailing (finiteDomainHead variables actions counts start goal) ≡ None → HeadPassed variables actions counts start goal
-  head-passed starts goals h =
+  values-left : List Check
+  values-left = valuesChecks ltb counts start (9 + variables) ++ valuesChecks valueOrAny counts goal (9 + 2 * variables)
+
+  all-passed : firstFailing (finiteDomainHead variables actions counts start goal) ≡ None → CountsPassed variables actions counts × (firstFailing values-left ≡ None)
+  unfolding values-left
+  all-passed h =
       let a = passed _ _ _ h in
       let size = size-passed h in
       let b = passed _ _ _ (a .1) in
       let count = and-parts _ _ (b .0) in
-      let last = valuesChecks valueOrAny counts goal (9 + 2 * variables) in
       let c = both (countsChecks counts 9) _ (b .1) in
-      let d = passed (leb (product counts) 65536) _ _ (c .1) in
-      let e = both (valuesChecks ltb counts start (9 + variables)) last (d .1) in
+      let d = passed (leb (product counts) 65536) _ _ (c .1) in (
+        record {
+          some-variable = size .0;
+          few-variables = size .1;
+          some-action = leb-true _ _ (count .0);
+          few-actions = leb-true _ _ (count .1);
+          counts = counts-passed counts 9 (c .0);
+          few-states = leb-true _ _ (d .0);
+        },
+        d .1,
+      )
+
+  pub counts-told : firstFailing (finiteDomainHead variables actions counts start goal) ≡ None → CountsPassed variables actions counts
+  counts-told h = all-passed h .0
+
+  pub head-passed : length start ≡ length counts → length goal ≡ length counts → firstFailing (finiteDomainHead variables actions counts start goal) ≡ None → HeadPassed variables actions counts start goal
+  unfolding values-left
+  head-passed starts goals h =
+      let a = all-passed h in
+      let told = a .0 in
+      let e = both (valuesChecks ltb counts start (9 + variables)) (valuesChecks valueOrAny counts goal (9 + 2 * variables)) (a .1) in
       record {
-        some-variable = size .0;
-        few-variables = size .1;
-        some-action = leb-true _ _ (count .0);
-        few-actions = leb-true _ _ (count .1);
-        counts = counts-passed counts 9 (c .0);
-        few-states = leb-true _ _ (d .0);
+        some-variable = told .some-variable;
+        few-variables = told .few-variables;
+        some-action = told .some-action;
+        few-actions = told .few-actions;
+        counts = told .counts;
+        few-states = told .few-states;
         start = values-passed ltb (λ v n. v < n) ltb-true counts start (9 + variables) starts (e .0);
         goal = values-passed valueOrAny (λ v n. (v < n) ⊎ (v ≡ 255)) goal-says counts goal (9 + 2 * variables) goals (e .1);
       }
