@@ -148,7 +148,7 @@ module _ {K : Type 0} (t : Model) (a : Algebra K) (h : Estimates K) (l : CostLaw
     started-exact = record { to = o .to; startable = o .startable; empty = o .empty; is-empty = o .is-empty; between = o .between; untagged = untagged; tagged = tagged; status = o .status; turns = o .turns; limit-kept = o .limit-kept; state-kept = o .state-kept; action-kept = o .action-kept }
 
     pub started-kept : Kept c
-    started-kept = record { sized = subst (λ n. Sized (after n) (c .memory)) (sym (o .turns)) sized; below-limit = λ e. rw (o .turns, o .limit-kept) (onward-below (c .memory .waiting) 0 limit (c .numbers .status) (o .status) e); few-turns = rw (o .limit-kept) (o .startable .few-turns) }
+    started-kept = record { sized = subst (λ n. Sized (after n) (c .memory)) (sym (o .turns)) sized; below-limit = λ e. rw (o .turns, o .limit-kept) (onward-below (c .memory .waiting) 0 limit (c .numbers .status) (o .status) e); few-turns = omega (arith, o .limit-kept, o .startable .few-turns) }
       where
         empty : Sized 1000000 (o .empty)
         empty p y b e = absurd (none-some (blank-marks t a table (o .empty) (o .is-empty) p b) e)

@@ -1,11 +1,12 @@
+pub mod Admissibility
 pub mod Bound
+pub mod Central
 pub mod Exact
 pub mod Frontier
 pub mod Histories
 pub mod Invariant
 pub mod Labels
 pub mod Offers
-pub mod Steps
-pub mod Central
-pub mod Verdicts
 pub mod Rows
+pub mod Steps
+pub mod Verdicts

@@ -22,9 +22,13 @@ AtMost {K} a h p k = (x : K) × (h p ≡ Some x) × (a .before k x ≡ false)
 abbrev pub Admissible : {K : Type 0} → Model → Algebra K → Estimates K → Type 0
 Admissible {K} t a h = (p : ℕ) (actions : List ℕ) (k : K) → Solution t a p actions k → AtMost a h p k
 
--- along a transition it falls by no more than the charge, and a dead end leads only to dead ends
+-- by this action it falls by no more than the charge, and a dead end leads only to dead ends
+abbrev pub ConsistentAt : {K : Type 0} → Model → Algebra K → Estimates K → ℕ → ℕ → Type 0
+ConsistentAt {K} t a h p action = (to : Transition) → t .transition p action ≡ Some to → (y : K) → h (to .state) ≡ Some y → AtMost a h p (a .plus (a .charge (to .coins)) y)
+
+-- so along every transition
 abbrev pub Consistent : {K : Type 0} → Model → Algebra K → Estimates K → Type 0
-Consistent {K} t a h = (p action : ℕ) (to : Transition) → t .transition p action ≡ Some to → (y : K) → h (to .state) ≡ Some y → AtMost a h p (a .plus (a .charge (to .coins)) y)
+Consistent t a h = (p action : ℕ) → ConsistentAt t a h p action
 
 -- every estimate is of size at most 2 ^ 40
 abbrev pub Bounded : {K : Type 0} → Algebra K → Estimates K → Type 0

@@ -7,9 +7,9 @@ pub trait CostAlgebra: Copy {
     // The exact operations on unbounded numbers, and the sum as it is computed.
     ghost algebra: { Algebra Self };
 
-    ghost laws: { CostLaws algebra };
+    law laws: { CostLaws algebra };
 
-    ghost strict: { Strict algebra };
+    law strict: { Strict algebra };
 
     fn zero() -> Self
         ensures { λ r. ⌜ r ≡ algebra .zero ⌝ };

@@ -95,3 +95,64 @@ impl Refusal {
         }
     }
 }
+
+impl Refusal {
+    // What the place counts or names.
+    fn unit(&self) -> &'static str {
+        match self {
+            Refusal::Length { .. } => "length",
+            Refusal::Short { .. } | Refusal::TableLength { .. } => "size",
+            Refusal::Range => "place",
+            Refusal::NoState { .. } | Refusal::AtGoal { .. } | Refusal::Foreign { .. } => "state",
+            Refusal::NoAction { .. } | Refusal::Inapplicable { .. } => "action",
+            Refusal::NotOpen { .. } => "turn",
+            _ => "byte",
+        }
+    }
+
+    // What is wrong, in words that help whoever made the input.
+    fn reason(&self) -> &'static str {
+        match self {
+            Refusal::Length { .. } =>
+                "a sheet has 9 to 65536 bytes, as many as bytes 1 to 4 say, and holds its whole head",
+            Refusal::Version => "the version, byte 0, has to be 1",
+            Refusal::Kind => "the kind, byte 5, is unknown or not the one that is read here",
+            Refusal::Count { .. } =>
+                "this count is out of range, or there would be more than 65536 states",
+            Refusal::StartOrGoal { .. } =>
+                "the start or the goal names a fact or value that the sheet does not have",
+            Refusal::Frame { .. } =>
+                "the lengths of this record do not fit, its name has not 1 to 32 bytes, or bytes follow the last record",
+            Refusal::Price { .. } => "the price of the action in this record is above 1000000",
+            Refusal::Names { .. } =>
+                "this record names a fact, variable or value that the sheet does not have, or its variables do not rise",
+            Refusal::Short { .. } => "a table, list or buffer is shorter than this",
+            Refusal::TableLength { .. } =>
+                "the table of estimates has to have one entry for each state",
+            Refusal::Inconsistent { .. } =>
+                "the estimate falls by more than the action costs, or is not zero at a goal",
+            Refusal::Range => "the limit or the budget is out of range",
+            Refusal::NoState { .. } => "there is no such state",
+            Refusal::NoAction { .. } => "there is no such action",
+            Refusal::Inapplicable { .. } => "the action is not applicable in the state",
+            Refusal::AtGoal { .. } => "the state is a goal",
+            Refusal::NotOpen { .. } => "the marking is not open",
+            Refusal::Foreign { .. } => "the open list holds what this marking did not put there",
+        }
+    }
+}
+
+pub impl fmt::Display for Refusal as RefusalDisplay {
+    fn fmt<W: fmt::Write>(&self, f: &mut fmt::Formatter<W>) -> fmt::Result {
+        let number = self.number();
+        let unit = self.unit();
+        let reason = self.reason();
+        match self.place() {
+            Place::At(place) => write!(f, "refused {number} at {unit} {place}: {reason}"),
+            Place::StateAndAction(state, action) => write!(
+                f,
+                "refused {number} at state {state}, action {action}: {reason}"
+            ),
+        }
+    }
+}

@@ -1,3 +1,4 @@
+pub mod FiniteDomain
 pub mod Frame
 pub mod Numbers
 pub mod Strips

@@ -1,4 +1,8 @@
 pub mod FactSets
+pub mod FiniteDomainLaws
+pub mod FiniteDomainSteps
+pub mod FiniteDomainVerdicts
+pub mod Numbering
 pub mod Shifts
 pub mod StripsLaws
 pub mod StripsSteps

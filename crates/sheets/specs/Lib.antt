@@ -1,3 +1,5 @@
+pub mod FiniteDomainReading
+pub mod FiniteDomainTasks
 pub mod Reading
 pub mod Records
 pub mod StripsTasks

@@ -1,4 +1,4 @@
--- What reading a fact sheet answers, and what it leaves in the caller's tables.
+-- What reading a sheet answers, and what it leaves in the caller's tables: what both kinds share, and fact sheets.
 use mathlib.Core.Path.{_≡_}
 use mathlib.Core.Bool.{_&&_}
 use mathlib.Core.List.{List, [], _∷_, _++_, map}
@@ -50,20 +50,20 @@ Unique bs = (c d : StripsContent) → Sheet bs c → Sheet bs d → c ≡ d
 abbrev pub tabled : Action Masks → StripsAction
 tabled x = record { preconditions = x .does .preconditions; adds = x .does .adds; deletes = x .does .deletes }
 
-abbrev pub priced : Action Masks → ℕ
+abbrev pub priced : {C : Type 0} → Action C → ℕ
 priced x = x .coins
 
 -- the last check of a reading call: both tables are long enough
 abbrev pub roomCheck : ℕ → ℕ → ℕ → Check
 roomCheck needed actions prices = record { passes = leb needed actions && leb needed prices; refusal = Short needed }
 
--- a table whose first entries hold the content, and whose rest is as it was
-abbrev pub Filled : {X : Type 0} → (Action Masks → X) → StripsContent → List X → List X → Type 0
-Filled f c table table′ = table′ ≡ map f (c .actions) ++ drop (length (c .actions)) table
+-- a table whose first entries hold the actions, and whose rest is as it was
+abbrev pub Filled : {C X : Type 0} → (Action C → X) → List (Action C) → List X → List X → Type 0
+Filled f xs table table′ = table′ ≡ map f xs ++ drop (length xs) table
 
 -- the tables hold the content, or they are untouched
 abbrev pub StripsReadInto : List ℕ → List StripsAction → List ℕ → List StripsAction → List ℕ → Result StripsHead Refusal → Type 0
 StripsReadInto bs actions prices actions′ prices′ (Ok h) =
-    (c : StripsContent) × Sheet bs c × HeadOf h c × Filled tabled c actions actions′ × Filled priced c prices prices′
+    (c : StripsContent) × Sheet bs c × HeadOf h c × Filled tabled (c .actions) actions actions′ × Filled priced (c .actions) prices prices′
 StripsReadInto bs actions prices actions′ prices′ (Err e) =
     (firstFailing (stripsChecks bs ++ (roomCheck (num16 bs 7) (length actions) (length prices) ∷ [])) ≡ Some e) × (actions′ ≡ actions) × (prices′ ≡ prices)

@@ -2,7 +2,14 @@
 ghost use mathlib.Core.Path.{_≡_};
 ghost use Prim.Native.Nat.{_+_, _≤_};
 ghost use lib.ListN.{length};
-ghost use Rattle.sheet_layout.specs.Numbers.{num16, num32};
+ghost use Rattle.sheet_layout.specs.Numbers.{byteAt, num16, num32};
+
+// The byte at a place, 0 past the end.
+pub(crate) fn byte_at(sheet: &[u8], at: usize) -> u8
+    ensures { λ r. ⌜ r ≡ byteAt (now (sheet .entry)) at ⌝ }
+{
+    if at < sheet.len() { sheet[at] } else { 0 }
+}
 
 pub(crate) fn u16_at(sheet: &[u8], at: usize) -> u16
     requires { ⌜ at + 2 ≤ length (now sheet) ⌝ }

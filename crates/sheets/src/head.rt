@@ -1,5 +1,11 @@
 // What the head of a sheet says. A head that exists is valid.
+ghost use mathlib.Core.Bool.{false};
+ghost use mathlib.Core.Path.{_≡_};
 ghost use Prim.Native.Nat.{_^_, _≤_, _<_};
+ghost use lib.ListN.{take};
+ghost use Rattle.std.specs.Options.{isSome};
+ghost use Rattle.planning.specs.Checks.{firstFailing};
+ghost use Rattle.sheet_layout.specs.FiniteDomain.{product, finiteDomainHead};
 
 // Facts, actions, and the start and the goal as sets of facts, bit i for fact i.
 #[derive(Clone, Copy, PartialEq, Eq, Debug)]
@@ -14,4 +20,18 @@ pub struct StripsHead {
     ghost few_actions: { actions ≤ 512 },
     ghost start_present: { start < 2 ^ facts },
     ghost goal_present: { goal < 2 ^ facts },
+}
+
+// Variables, actions and states, and of each variable its number of values, its value at the start
+// and its value at the goal, 255 for any.
+#[derive(Clone, Copy, PartialEq, Eq, Debug)]
+pub struct FiniteDomainHead {
+    pub(crate) variables: u8,
+    pub(crate) actions: u16,
+    pub(crate) states: u32,
+    pub(crate) counts: [u8; 16],
+    pub(crate) start: [u8; 16],
+    pub(crate) goal: [u8; 16],
+    ghost valid: { isSome (firstFailing (finiteDomainHead variables actions (take variables counts) (take variables start) (take variables goal))) ≡ false },
+    ghost total: { states ≡ product (take variables counts) },
 }

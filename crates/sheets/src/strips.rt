@@ -143,7 +143,7 @@ fn fill(sheet: &[u8], count: u16, actions: &mut [StripsAction], prices: &mut [u3
     requires passes { ⌜ firstFailing (stripsChecks (now sheet)) ≡ None ⌝ }
     requires count { ⌜ count ≡ num16 (now sheet) 7 ⌝ }
     requires room { ⌜ count ≤ length (now actions) ⌝ ∗ ⌜ count ≤ length (now prices) ⌝ }
-    ensures { λ _. ⌜ ((c : StripsContent) → Sheet (now (sheet .entry)) c → Filled tabled c (now (actions .entry)) (now (actions .exit)) × Filled priced c (now (prices .entry)) (now (prices .exit))) ⌝ }
+    ensures { λ _. ⌜ ((c : StripsContent) → Sheet (now (sheet .entry)) c → Filled tabled (c .actions) (now (actions .entry)) (now (actions .exit)) × Filled priced (c .actions) (now (prices .entry)) (now (prices .exit))) ⌝ }
 {
     let mut at = 17;
     for i in 0..count as usize {

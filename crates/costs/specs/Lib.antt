@@ -1,0 +1,3 @@
+pub mod Coins
+pub mod CoinsThenActions
+pub mod Counted

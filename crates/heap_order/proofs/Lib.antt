@@ -1,0 +1,4 @@
+pub mod Earlier
+pub mod Heaps
+pub mod Pigeons
+pub mod Sifts

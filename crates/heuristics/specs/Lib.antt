@@ -1,0 +1,4 @@
+pub mod Layers
+pub mod Promises
+pub mod Tables
+pub mod Checks
