@@ -212,3 +212,10 @@ every-drop P ns i h e = subst (Every P) (drop-more ns i 0 h) e
 
 pub counted-valid : (ns : List ℕ) → firstFailing (countsChecks ns 9) ≡ None → Every ValidCount ns
 counted-valid ns h = counts-passed ns 9 h
+
+-- values pass exactly when each is below its variable's number of values
+pub plain-passed : (ns vs : List ℕ) (p : ℕ) → length vs ≡ length ns → firstFailing (valuesChecks (λ v n. ltb v n || (false && eqb v 255)) ns vs p) ≡ None → Each (λ v n. v < n) vs ns
+plain-passed ns vs p long h = values-passed ltb (λ v n. v < n) ltb-true ns vs p long (sym (ap firstFailing (values-plain ns vs p)) ∙ h)
+
+pub plain-pass : (ns vs : List ℕ) (p : ℕ) → Each (λ v n. v < n) vs ns → firstFailing (valuesChecks (λ v n. ltb v n || (false && eqb v 255)) ns vs p) ≡ None
+plain-pass ns vs p e = ap firstFailing (values-plain ns vs p) ∙ values-pass ltb (λ v n. v < n) lt-ltb ns vs p e

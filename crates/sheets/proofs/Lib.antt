@@ -1,5 +1,6 @@
 pub mod FactSets
 pub mod FiniteDomainLaws
+pub mod FiniteDomainRecords
 pub mod FiniteDomainSteps
 pub mod FiniteDomainVerdicts
 pub mod Numbering

@@ -41,6 +41,11 @@ pub record Numbering (counts : List ℕ) : Type 0 where
   pub back : (values : List ℕ) → InRange counts values → decode counts (encode counts values) ≡ values
   pub forth : (state : ℕ) → state < product counts → encode counts (decode counts state) ≡ state
 
+-- the state in which the variables have these values, where they are in range
+abbrev pub StateWith : List ℕ → List ℕ → Option ℕ → Type 0
+StateWith counts values (Some state) = InRange counts values × (state ≡ encode counts values)
+StateWith counts values None = InRange counts values → ⊥
+
 -- every value that is named is the state's
 abbrev pub holds : List ℕ → List ℕ → Bool
 holds [] values = true

@@ -51,7 +51,12 @@ pub(crate) fn is_value(value: u8, count: u8, any: bool) -> bool
 }
 
 // The values of the variables, which stand from a byte on: each one of its variable's, or any where that is allowed.
-fn check_values(counts: &[u8], values: &[u8], any: bool, first: usize) -> Result<(), Refusal>
+pub(crate) fn check_values(
+    counts: &[u8],
+    values: &[u8],
+    any: bool,
+    first: usize,
+) -> Result<(), Refusal>
     requires few { ⌜ length (now counts) ≤ 16 ⌝ }
     requires same { ⌜ length (now values) ≡ length (now counts) ⌝ }
     requires place { ⌜ first ≤ 41 ⌝ }

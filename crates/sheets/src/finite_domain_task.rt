@@ -7,9 +7,11 @@ ghost use Rattle.std.specs.Vec.{Every};
 ghost use Rattle.std.specs.declared.option.Option.the-variants.{Some, None};
 ghost use Rattle.sheet_layout.specs.FiniteDomain.{ValidCount, product};
 ghost use Rattle.sheets.specs.FiniteDomainReading.{padded};
-ghost use Rattle.sheets.specs.FiniteDomainTasks.{encode as encodes, decode as decodes, InRange, holds, changed as changes, names, applicable, successor, finiteDomainModel};
+ghost use Rattle.sheets.specs.FiniteDomainTasks.{encode as encodes, decode as decodes, InRange, holds, changed as changes, names, applicable, successor, countsOf, Numbering, StateWith, finiteDomainModel};
+ghost use lib.Dec.{ltb};
 use crate::bytes::byte_at;
 use crate::finite_domain::FiniteDomainAction;
+use crate::finite_domain::check_values;
 use crate::finite_domain::is_value;
 use crate::head::FiniteDomainHead;
 use planning::task::Task;
@@ -66,6 +68,34 @@ fn encode(counts: &[u8], values: &[u8]) -> u32
         state = values[i] as u32 + counts[i] as u32 * state;
     }
     state
+}
+
+impl FiniteDomainHead {
+    // The values of the variables in a state, and 0 behind them; none for an absent state.
+    pub fn values_in(&self, state: u32) -> Option<[u8; 16]>
+        ensures value { λ r. ⌜ r ≡ cond (ltb state (product (countsOf (now (self .entry))))) (Some (padded (decodes (countsOf (now (self .entry))) state))) None ⌝ }
+        ensures numbering { λ _. ⌜ Numbering (countsOf (now (self .entry))) ⌝ }
+    {
+        if state >= self.states {
+            return None;
+        }
+        Some(decode(self.counts(), state))
+    }
+
+    // The state in which the variables have these values; none where they are not one for each variable.
+    pub fn state_with(&self, values: &[u8]) -> Option<u32>
+        ensures value { λ r. ⌜ StateWith (countsOf (now (self .entry))) (now (values .entry)) r ⌝ }
+        ensures numbering { λ _. ⌜ Numbering (countsOf (now (self .entry))) ⌝ }
+    {
+        let counts = self.counts();
+        if values.len() != counts.len() {
+            return None;
+        }
+        match check_values(counts, values, false, 0) {
+            Ok(()) => Some(encode(counts, values)),
+            Err(_) => None,
+        }
+    }
 }
 
 // Whether every value that is named is the state's: the test of preconditions, and of a goal.

@@ -5,5 +5,6 @@ pub mod finite_domain_task;
 mod frame;
 pub mod head;
 pub mod record;
+pub mod sheet;
 pub mod strips;
 pub mod strips_task;

@@ -3,6 +3,7 @@ use mathlib.Core.Bool.{true, _&&_}
 use mathlib.Core.List.{List}
 use Prim.Native.Nat.{ℕ, _+_, _-_, _*_, _<_}
 use native.Mathlib.Omega.{arith}
+use lib.Dec.{leb, ltb}
 use lib.ListN.{length, set}
 use Rattle.std.proofs.shelf.Lists.{length-set}
 use Rattle.std.proofs.shelf.Tests.{and-parts, ltb-true}
@@ -23,7 +24,7 @@ index-values-sheet c =
     let i = c .loop-i .i in
     let least = c .loop-i .inv .2 .0 in
     let a = here bs (byteAt bs (c .args .at)) i p least (c .loop-i-test .taken) (c .loop-i .inv .2 .1) .0 in
-    let low = ltb-true (byteAt bs (p + 2 * i)) (byteAt bs 6) (and-parts _ _ (and-parts _ _ a .1) .0) in
+    let low = ltb-true (byteAt bs (p + 2 * i)) (byteAt bs 6) (and-parts (ltb (byteAt bs (p + 2 * i)) (byteAt bs 6)) _ (and-parts (leb least (byteAt bs (p + 2 * i))) _ a .1) .0) in
     omega (arith, low, c .pre .few)
 
 pub loop-i-again : need.loop-i-again

@@ -46,11 +46,11 @@ returns c =
     let ns = countsOf (t .head) in
     let s = c .args .state in
     let a = c .args .action in
-    let x = nth-getD (t .actions .now) a _ (c .if-at-self .left) in
-    let price = nth-getD (t .prices .now) a 0 (c .if-at-self-2 .left) in
     let states = t .head .total in
     let same = c .counts .ensures in
     let inside = and-from (ltb s (product ns)) (ltb a (t .head .actions)) (lt-ltb s (product ns) (omega (arith, states, c .if-state-self .left))) (lt-ltb a (t .head .actions) (c .if-action-self .left)) in
+    let x = nth-getD (t .actions .now) a _ (c .if-at-self .left) in
+    let price = nth-getD (t .prices .now) a 0 (c .if-at-self-2 .left) in
     c .perform .ensures
     ∙ (λ i. performed (same i) (decode (same i) s) (sym x i) (sym price i))
     ∙ sym (cond-true (ltb s (product ns) && ltb a (t .head .actions)) (performed ns (decode ns s) (nth (t .actions .now) a) (nth (t .prices .now) a)) None inside)

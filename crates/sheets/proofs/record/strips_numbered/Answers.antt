@@ -12,7 +12,7 @@ use Rattle.planning.proofs.Rows.{after, within, fail}
 use Rattle.sheet_layout.proofs.StripsSheets.{stripsRead}
 use Rattle.sheets.specs.Records.{StripsAt, numberCheck}
 use Rattle.sheets.proofs.Verdicts.{passes, fits-there, record-there}
-use Rattle.sheets.proofs.record.record.Needs as need
+use Rattle.sheets.proofs.record.strips_numbered.Needs as need
 
 pub returns-in-Break-head : need.returns-in-Break-head
 returns-in-Break-head c =
