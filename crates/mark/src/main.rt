@@ -14,6 +14,12 @@ use questions::input::Asked;
 use questions::input::split;
 use questions::line::write_line;
 use questions::line::write_refused;
+use sheets::finite_domain::FiniteDomainAction;
+use sheets::finite_domain::read_finite_domain;
+use sheets::finite_domain_task::FiniteDomainTask;
+use sheets::finite_domain_task::FiniteDomainTasks;
+use sheets::sheet::SheetHead;
+use sheets::sheet::read_head;
 use sheets::strips::StripsAction;
 use sheets::strips::read_strips;
 use sheets::strips_task::StripsTask;
@@ -72,7 +78,7 @@ fn show_answers<T: Task>(rt: &LibcRuntime, task: &T, asked: Asked<'_>) -> Result
     Ok(())
 }
 
-fn show_sheet(rt: &LibcRuntime, asked: Asked<'_>) -> Result<(), AnyError> {
+fn show_strips(rt: &LibcRuntime, asked: Asked<'_>) -> Result<(), AnyError> {
     let heap = rt.alloc();
     let none = StripsAction {
         preconditions: 0,
@@ -83,6 +89,34 @@ fn show_sheet(rt: &LibcRuntime, asked: Asked<'_>) -> Result<(), AnyError> {
     let mut prices = vec![in heap; 0u32; MOST_ACTIONS]?;
     match read_strips(asked.sheet, &mut actions, &mut prices) {
         Ok(head) => show_answers(rt, &StripsTask::new(head, &actions, &prices), asked),
+        Err(refusal) => show_refused(rt, refusal),
+    }
+}
+
+fn show_finite_domain(rt: &LibcRuntime, asked: Asked<'_>) -> Result<(), AnyError> {
+    let heap = rt.alloc();
+    let none = FiniteDomainAction {
+        preconditions: [255; 16],
+        effects: [255; 16],
+    };
+    let mut actions = vec![in heap; none; MOST_ACTIONS]?;
+    let mut prices = vec![in heap; 0u32; MOST_ACTIONS]?;
+    match read_finite_domain(asked.sheet, &mut actions, &mut prices) {
+        Ok(head) => show_answers(rt, &FiniteDomainTask::new(head, &actions, &prices), asked),
+        Err(refusal) => show_refused(rt, refusal),
+    }
+}
+
+fn show_head(rt: &LibcRuntime, asked: Asked<'_>, head: SheetHead) -> Result<(), AnyError> {
+    match head {
+        SheetHead::Strips(_) => show_strips(rt, asked),
+        SheetHead::FiniteDomain(_) => show_finite_domain(rt, asked),
+    }
+}
+
+fn show_sheet(rt: &LibcRuntime, asked: Asked<'_>) -> Result<(), AnyError> {
+    match read_head(asked.sheet) {
+        Ok(head) => show_head(rt, asked, head),
         Err(refusal) => show_refused(rt, refusal),
     }
 }
