@@ -481,7 +481,7 @@ mod tests {
                 Ok(SheetRecord::Strips(r)) => check(
                     r.place == place && r.name.place == place + 18 && r.name.bytes.len() == long,
                 )?,
-                Err(_) => return Err(Fail::new("refused")),
+                _ => return Err(Fail::new("no such record")),
             }
         }
         match record(&KEY, 7) {
