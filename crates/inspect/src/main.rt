@@ -169,15 +169,21 @@ fn show_strips(rt: &LibcRuntime, sheet: &[u8], head: StripsHead) -> Result<(), A
         return show_refusal(rt, sheet, refusal);
     }
     let task = StripsTask::new(head, &actions, &prices);
-    let facts = head.facts();
-    let count = head.actions();
+    let facts = head.facts;
+    let count = head.actions;
     let states = task.states();
-    let start = facts_in(heap, head.start())?;
-    let goal = facts_in(heap, head.goal())?;
+    let start = facts_in(heap, head.start)?;
+    let goal = facts_in(heap, head.goal)?;
     println!(rt, "facts: {facts} facts, {count} actions, {states} states")?;
     println!(rt, "start: {start}")?;
     println!(rt, "goal: {goal}")?;
-    show_actions(rt, sheet, &task, head.start())
+    show_actions(rt, sheet, &task, head.start)
+}
+
+// The values of the variables that there are.
+fn first(values: &[u8; 16], variables: u8) -> &[u8] {
+    let n = variables as usize;
+    if n < 16 { &values[0..n] } else { values }
 }
 
 fn show_finite_domain(
@@ -196,12 +202,12 @@ fn show_finite_domain(
         return show_refusal(rt, sheet, refusal);
     }
     let task = FiniteDomainTask::new(head, &actions, &prices);
-    let variables = head.variables();
-    let count = head.actions();
-    let states = head.states();
-    let values = values_in(heap, head.counts())?;
-    let start = values_in(heap, head.start())?;
-    let goal = values_in(heap, head.goal())?;
+    let variables = head.variables;
+    let count = head.actions;
+    let states = head.states;
+    let values = values_in(heap, first(&head.counts, variables))?;
+    let start = values_in(heap, first(&head.start, variables))?;
+    let goal = values_in(heap, first(&head.goal, variables))?;
     println!(
         rt,
         "dials: {variables} variables, {count} actions, {states} states"
@@ -209,7 +215,12 @@ fn show_finite_domain(
     println!(rt, "values: {values}")?;
     println!(rt, "start: {start}")?;
     println!(rt, "goal: {goal}")?;
-    show_actions(rt, sheet, &task, head.state_with(head.start()).unwrap_or(0))
+    show_actions(
+        rt,
+        sheet,
+        &task,
+        head.state_with(first(&head.start, variables)).unwrap_or(0),
+    )
 }
 
 fn show_head(rt: &LibcRuntime, sheet: &[u8], head: SheetHead) -> Result<(), AnyError> {

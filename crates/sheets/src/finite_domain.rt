@@ -117,43 +117,11 @@ impl FiniteDomainHead {
         })
     }
 
-    pub fn variables(&self) -> u8
-        ensures { λ r. ⌜ r ≡ now (self .entry) .variables ⌝ }
-    {
-        self.variables
-    }
-
-    pub fn actions(&self) -> u16
-        ensures { λ r. ⌜ r ≡ now (self .entry) .actions ⌝ }
-    {
-        self.actions
-    }
-
-    pub fn states(&self) -> u32
-        ensures { λ r. ⌜ r ≡ now (self .entry) .states ⌝ }
-    {
-        self.states
-    }
-
     // The number of values of each variable.
-    pub fn counts(&self) -> &[u8]
+    pub(crate) fn counts(&self) -> &[u8]
         ensures { λ r. ⌜ now r ≡ take (now (self .entry) .variables) (now (self .entry) .counts) ⌝ }
     {
         &self.counts[0..self.variables as usize]
-    }
-
-    // The value of each variable at the start.
-    pub fn start(&self) -> &[u8]
-        ensures { λ r. ⌜ now r ≡ take (now (self .entry) .variables) (now (self .entry) .start) ⌝ }
-    {
-        &self.start[0..self.variables as usize]
-    }
-
-    // The value of each variable at the goal, 255 for any.
-    pub fn goal(&self) -> &[u8]
-        ensures { λ r. ⌜ now r ≡ take (now (self .entry) .variables) (now (self .entry) .goal) ⌝ }
-    {
-        &self.goal[0..self.variables as usize]
     }
 }
 

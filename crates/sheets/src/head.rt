@@ -10,10 +10,10 @@ ghost use Rattle.sheet_layout.specs.FiniteDomain.{product, finiteDomainHead};
 // Facts, actions, and the start and the goal as sets of facts, bit i for fact i.
 #[derive(Clone, Copy, PartialEq, Eq, Debug)]
 pub struct StripsHead {
-    pub(crate) facts: u8,
-    pub(crate) actions: u16,
-    pub(crate) start: u32,
-    pub(crate) goal: u32,
+    pub facts: u8,
+    pub actions: u16,
+    pub start: u32,
+    pub goal: u32,
     ghost some_fact: { 1 ≤ facts },
     ghost few_facts: { facts ≤ 16 },
     ghost some_action: { 1 ≤ actions },
@@ -26,12 +26,12 @@ pub struct StripsHead {
 // and its value at the goal, 255 for any.
 #[derive(Clone, Copy, PartialEq, Eq, Debug)]
 pub struct FiniteDomainHead {
-    pub(crate) variables: u8,
-    pub(crate) actions: u16,
-    pub(crate) states: u32,
-    pub(crate) counts: [u8; 16],
-    pub(crate) start: [u8; 16],
-    pub(crate) goal: [u8; 16],
+    pub variables: u8,
+    pub actions: u16,
+    pub states: u32,
+    pub counts: [u8; 16],
+    pub start: [u8; 16],
+    pub goal: [u8; 16],
     ghost valid: { isSome (firstFailing (finiteDomainHead variables actions (take variables counts) (take variables start) (take variables goal))) ≡ false },
     ghost total: { states ≡ product (take variables counts) },
 }

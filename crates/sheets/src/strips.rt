@@ -77,30 +77,6 @@ impl StripsHead {
             goal,
         })
     }
-
-    pub fn facts(&self) -> u8
-        ensures { λ r. ⌜ r ≡ now (self .entry) .facts ⌝ }
-    {
-        self.facts
-    }
-
-    pub fn actions(&self) -> u16
-        ensures { λ r. ⌜ r ≡ now (self .entry) .actions ⌝ }
-    {
-        self.actions
-    }
-
-    pub fn start(&self) -> u32
-        ensures { λ r. ⌜ r ≡ now (self .entry) .start ⌝ }
-    {
-        self.start
-    }
-
-    pub fn goal(&self) -> u32
-        ensures { λ r. ⌜ r ≡ now (self .entry) .goal ⌝ }
-    {
-        self.goal
-    }
 }
 
 // The checks of a fact sheet, and its head by the places of its numbers.
