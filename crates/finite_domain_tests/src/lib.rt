@@ -256,4 +256,118 @@ mod tests {
         check_eq(verdict(&with_byte(rt.alloc(), &pair, 24, 0)?), (8, 15))?;
         check_eq(verdict(&with_byte(rt.alloc(), &pair, 29, 0)?), (8, 15))
     }
+
+    const NONE: FiniteDomainAction = FiniteDomainAction {
+        preconditions: [9; 16],
+        effects: [9; 16],
+    };
+
+    // Tables that are too short are refused with the size needed, and nothing is written; else the first entries are.
+    #[test]
+    fn tables_are_filled_or_left() -> Result<(), Fail> {
+        let mut actions = [NONE; 8];
+        let mut prices = [9; 8];
+        check(read_finite_domain(&DOOR, &mut actions[0..6], &mut prices).is_err())?;
+        check(read_finite_domain(&DOOR, &mut actions, &mut prices[0..6]).is_err())?;
+        check_eq(prices, [9; 8])?;
+        check(actions[0].effects[0] == 9)?;
+        check(read_finite_domain(&DOOR, &mut actions, &mut prices).is_ok())?;
+        check_eq(prices, [1, 1, 1, 1, 3, 0, 1, 9])?;
+        let third = actions[2];
+        check(third.preconditions[0] == 1 && third.preconditions[1] == 255)?;
+        check(third.effects[2] == 1 && third.effects[15] == 255 && actions[7].effects[0] == 9)
+    }
+
+    // What the actions of DOOR do, as sets of facts.
+    fn fact_action(preconditions: u32, adds: u32, deletes: u32) -> StripsAction {
+        StripsAction {
+            preconditions,
+            adds,
+            deletes,
+        }
+    }
+
+    // Variables of two values are facts: both tasks agree on every state and action, absent ones too.
+    #[test]
+    fn agrees_with_facts() -> Result<(), Fail> {
+        let facts = [
+            fact_action(0, 1, 0),
+            fact_action(0, 2, 0),
+            fact_action(1, 4, 0),
+            fact_action(2, 4, 0),
+            fact_action(0, 4, 0),
+            fact_action(0, 0, 0),
+            fact_action(0, 1, 1),
+        ];
+        let coins = [1, 1, 1, 1, 3, 0, 1];
+        let strips = StripsTask::new(StripsHead::new(3, 7, 0, 4)?, &facts, &coins);
+        let mut actions = [NONE; 7];
+        let mut prices = [0; 7];
+        let head = read_finite_domain(&DOOR, &mut actions, &mut prices)?;
+        let task = FiniteDomainTask::new(head, &actions, &prices);
+        check_eq(task.states(), strips.states())?;
+        for state in 0..10 {
+            check_eq(task.is_goal(state), strips.is_goal(state))?;
+            for action in 0..9 {
+                check_eq(
+                    task.transition(state, action),
+                    strips.transition(state, action),
+                )?;
+            }
+        }
+        Ok(())
+    }
+
+    // A record by its number: the places of its parts.
+    #[test]
+    fn records_by_number() -> Result<(), Fail> {
+        match record(&DOOR, 3) {
+            Ok(SheetRecord::FiniteDomain(r)) => {
+                check(r.place == 53 && r.coins == 1)?;
+                check(r.preconditions.place == 60 && r.preconditions.bytes == [1, 1])?;
+                check(r.effects.place == 63 && r.effects.bytes == [2, 1])?;
+                check(r.name.place == 65 && r.name.bytes == [100])?;
+            }
+            _ => return Err(Fail::new("refused")),
+        }
+        match record(&DOOR, 7) {
+            Ok(_) => Err(Fail::new("accepted")),
+            Err(refusal) => check_eq(refusal.number(), 14),
+        }
+    }
+
+    // The task of other tables: prices are capped, and what names an absent variable or value never applies.
+    #[test]
+    fn tasks_over_other_tables() -> Result<(), Fail> {
+        let mut counts = [0; 16];
+        counts[0] = 3;
+        counts[1] = 16;
+        let mut goal = [255; 16];
+        goal[1] = 15;
+        let head = FiniteDomainHead::new(2, 3, counts, [0; 16], goal)?;
+        let mut actions = [FiniteDomainAction {
+            preconditions: [255; 16],
+            effects: [255; 16],
+        }; 3];
+        actions[0].preconditions[0] = 2;
+        actions[0].effects[0] = 0;
+        actions[0].effects[1] = 15;
+        actions[1].effects[0] = 3;
+        actions[2].effects[2] = 0;
+        let task = FiniteDomainTask::new(head, &actions, &[2000000, 1, 1]);
+        check_eq(
+            task.transition(5, 0),
+            Some(Transition {
+                state: 45,
+                coins: 1000000,
+            }),
+        )?;
+        check_eq(task.transition(4, 0), None)?;
+        check_eq(task.transition(5, 1), None)?;
+        check_eq(task.transition(5, 2), None)?;
+        check_eq(task.transition(48, 0), None)?;
+        check(task.is_goal(45) && task.is_goal(47) && !task.is_goal(44) && !task.is_goal(48))?;
+        check_eq(head.state_with(&[2, 1]), Some(5))?;
+        check_eq(head.state_with(&[3, 1]), None)
+    }
 }
