@@ -1,16 +1,16 @@
 -- From the checks of a sheet of variables to its content.
-use mathlib.Core.Path.{_≡_, refl, sym, ap, subst, _∙_}
-use mathlib.Core.Bool.{Bool, true, false, _&&_, cond}
+use mathlib.Core.Path.{_≡_, sym, ap, subst, _∙_}
+use mathlib.Core.Bool.{true, false, _&&_, cond}
 use mathlib.Core.List.{List, [], _++_}
 use mathlib.Core.Logic.{⊎-elim}
 use Prim.Native.Nat.{ℕ, _+_, _-_, _*_, _≤_, _<_, min}
 use native.Mathlib.Omega.{arith}
 use lib.Dec.{leb, ltb}
-use lib.ListN.{length, take, drop, getD, replicate}
+use lib.ListN.{length, take, getD, replicate}
 use Rattle.std.specs.declared.option.Option.the-variants.{Some, None}
 use Rattle.std.specs.declared.result.Result.{Result}
 use Rattle.std.specs.declared.result.Result.the-variants.{Ok, Err}
-use Rattle.std.proofs.shelf.Lists.{ext-getD, length-append, length-replicate, getD-append-left, getD-append-right, getD-replicate, getD-past, take-at}
+use Rattle.std.proofs.shelf.Lists.{ext-getD, length-append, length-replicate, getD-append-left, getD-append-right, getD-replicate, take-at}
 use Rattle.std.proofs.shelf.Tests.{cases-bool, cases-lt, and-parts, leb-true, lt-ltb, le-ltb, cond-true, cond-false}
 use Rattle.planning.specs.declared.refusal.Refusal.{Refusal}
 use Rattle.planning.specs.Checks.{firstFailing}

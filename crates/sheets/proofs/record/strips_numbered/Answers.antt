@@ -1,14 +1,11 @@
-use mathlib.Core.Path.{_≡_, refl, sym, ap, subst, _∙_}
-use mathlib.Core.List.{[], _∷_, _++_}
+use mathlib.Core.Path.{subst}
 use native.Mathlib.Omega.{arith}
 use Rattle.std.proofs.shelf.Results.{err-from-errBy}
-use Rattle.planning.specs.Checks.{firstFailing}
-use Rattle.sheet_layout.specs.Frame.{recordPlace, framed}
-use Rattle.sheet_layout.specs.Numbers.{Bytes, num16}
-use Rattle.sheet_layout.specs.Strips.{stripsKind, stripsChecks}
+use Rattle.sheet_layout.specs.Numbers.{Bytes}
+use Rattle.sheet_layout.specs.Strips.{stripsChecks}
 use Rattle.planning.proofs.Rows.{within}
 use Rattle.sheet_layout.proofs.StripsSheets.{stripsRead}
-use Rattle.sheets.specs.Records.{StripsAt, numberCheck}
+use Rattle.sheets.specs.Records.{StripsAt}
 use Rattle.sheets.proofs.LastChecks.{number-fails}
 use Rattle.sheets.proofs.Verdicts.{passes, fits-there, record-there}
 use Rattle.sheets.proofs.record.strips_numbered.Needs as need
