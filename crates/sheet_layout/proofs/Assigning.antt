@@ -5,13 +5,12 @@ use mathlib.Core.List.{List, [], _∷_, _++_, append-assoc}
 use Prim.Native.Nat.{ℕ, zero, suc, _+_, _-_, _*_, _≤_, _<_}
 use native.Mathlib.Nat.{add-zero}
 use native.Mathlib.Omega.{arith}
-use lib.Dec.{leb, ltb}
-use lib.ListN.{length, take, drop, getD, length-append, length-drop}
+use lib.ListN.{length, drop, getD, length-append, length-drop}
 use Rattle.std.specs.Joined.{joined}
 use Rattle.std.proofs.shelf.Lists.{length-take-le, getD-take, getD-drop}
 use Rattle.std.proofs.shelf.Tests.{and-parts, and-from, leb-true, le-leb, ltb-true, lt-ltb}
 use Rattle.sheet_layout.specs.FiniteDomain.{Assignment, Assignments, ValidList, ValidAssignments, assignmentBytes, listBytes, assignmentsBytes, listEnd, listFits, presentPair, presentPairs, presentList, readPairs, readList, readAssignments, part, finiteDomainKind}
-use Rattle.sheet_layout.specs.Numbers.{Bytes, byteAt}
+use Rattle.sheet_layout.specs.Numbers.{byteAt}
 use Rattle.sheet_layout.proofs.Bytewise.{next, at-front, past}
 use Rattle.sheet_layout.proofs.Framing.{Decodes}
 

@@ -1,11 +1,11 @@
 -- Reading and writing numbers and parts at a place of a list of bytes.
-use mathlib.Core.Path.{_≡_, refl, sym, ap, ap₂, subst, _∙_}
-use mathlib.Core.List.{List, [], _∷_, _++_, append-assoc}
-use Prim.Native.Nat.{ℕ, _+_, _-_, _*_, _/_, _%_, _^_, _<_, _≤_}
-use native.Mathlib.Nat.{add-zero, add-assoc}
+use mathlib.Core.Path.{_≡_, refl, sym, ap, _∙_}
+use mathlib.Core.List.{List, [], _∷_, _++_}
+use Prim.Native.Nat.{ℕ, _+_, _*_, _/_, _%_, _^_, _<_, _≤_}
+use native.Mathlib.Nat.{add-zero}
 use native.Mathlib.Omega.{arith}
-use lib.ListN.{length, getD, take, drop, length-append, length-drop, take-append-drop}
-use Rattle.std.proofs.shelf.Lists.{drop-more, drop-drop, getD-drop, drop-at, take-at}
+use lib.ListN.{length, getD, drop}
+use Rattle.std.proofs.shelf.Lists.{drop-more, drop-drop, getD-drop, drop-at}
 use Rattle.sheet_layout.specs.Numbers.{Bytes, be16, be32, byteAt, num16, num32}
 
 -- written out, a number that was read gives the bytes back

@@ -1,8 +1,7 @@
 -- Sheets of variables: the checks pass exactly for the sheets of valid contents.
 use mathlib.Core.Path.{_≡_, refl, sym, ap, subst, _∙_}
-use mathlib.Core.Bool.{true, _&&_}
-use mathlib.Core.List.{List, [], _∷_, _++_, append-assoc}
-use Prim.Native.Nat.{ℕ, _+_, _-_, _*_, _≤_, _<_}
+use mathlib.Core.List.{List, _++_, append-assoc}
+use Prim.Native.Nat.{ℕ, _+_, _*_, _≤_}
 use native.Mathlib.Omega.{arith}
 use lib.ListN.{length, take, drop, length-append, take-append-drop}
 use Rattle.std.specs.declared.option.Option.the-variants.{None}
@@ -14,7 +13,7 @@ use Rattle.planning.specs.Checks.{firstFailing}
 use Rattle.planning.proofs.Rows.{after, front}
 use Rattle.sheet_layout.specs.Frame.{ValidAction, recordBytes, recordsChecks, headOf, headLength, sheetBytes}
 use Rattle.sheet_layout.specs.Numbers.{Bytes, byteAt, num16}
-use Rattle.sheet_layout.specs.FiniteDomain.{Assignments, FiniteDomainContent, ValidAssignments, ValidFiniteDomain, assignmentsBytes, finiteDomainBytes, finiteDomainKind, finiteDomainHead, finiteDomainHeadChecks, finiteDomainChecks, readAssignments, part}
+use Rattle.sheet_layout.specs.FiniteDomain.{FiniteDomainContent, ValidAssignments, ValidFiniteDomain, assignmentsBytes, finiteDomainBytes, finiteDomainKind, finiteDomainHead, finiteDomainHeadChecks, finiteDomainChecks, readAssignments, part}
 use Rattle.sheet_layout.proofs.Assigning.{countsOf, part-length, assignments-short, assignments-decode}
 use Rattle.sheet_layout.proofs.Bytewise.{past}
 use Rattle.sheet_layout.proofs.FiniteDomainHeads.{HeadPassed, size-passed, head-passed, head-pass, each-length}

@@ -1,18 +1,18 @@
 -- Records: what passes the checks is the layout of what is read, and the layout of valid actions passes.
-use mathlib.Core.Path.{_≡_, refl, sym, ap, subst, _∙_}
-use mathlib.Core.Bool.{Bool, true, false, _&&_}
+use mathlib.Core.Path.{_≡_, refl, sym, ap, _∙_}
+use mathlib.Core.Bool.{true}
 use mathlib.Core.List.{List, [], _∷_, _++_, append-assoc}
 use mathlib.Core.Logic.{⊎-elim}
 use Prim.Native.Nat.{ℕ, zero, suc, _+_, _-_, _≤_, _<_}
 use native.Mathlib.Omega.{arith}
 use lib.Dec.{leb}
-use lib.ListN.{length, take, drop, getD, length-append, length-drop, length-take, take-append-drop}
+use lib.ListN.{length, take, drop, length-append, length-drop, length-take, take-append-drop}
 use Rattle.std.specs.Joined.{joined}
 use Rattle.std.specs.Vec.{Every}
 use Rattle.std.specs.declared.option.Option.the-variants.{None}
-use Rattle.std.proofs.shelf.Lists.{drop-drop, drop-at, take-at, length-take-le, getD-take, getD-drop, drop-all, getD-past}
+use Rattle.std.proofs.shelf.Lists.{drop-drop, take-at, length-take-le, getD-take, getD-drop, drop-all, getD-past}
 use Rattle.std.proofs.shelf.Tests.{and-parts, and-from, leb-true, le-leb, cases-lt}
-use Rattle.planning.specs.declared.refusal.Refusal.the-variants.{Frame, Price, Names}
+use Rattle.planning.specs.declared.refusal.Refusal.the-variants.{Frame}
 use Rattle.planning.specs.Checks.{Check, firstFailing}
 use Rattle.sheet_layout.specs.Frame.{Action, ValidAction, KindOf, recordBytes, recordEnd, recordPlace, framed, recordChecks, recordsChecks}
 use Rattle.sheet_layout.specs.Numbers.{Bytes, be16, be32, num16, num32}

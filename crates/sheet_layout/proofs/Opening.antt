@@ -1,11 +1,9 @@
 -- The opening of a sheet, and the whole sheet around its head and records.
 use mathlib.Core.Path.{_≡_, refl, sym, ap, _∙_}
-use mathlib.Core.Bool.{true, _&&_}
 use mathlib.Core.List.{List, [], _∷_, _++_}
-use Prim.Native.Nat.{ℕ, _+_, _-_, _*_, _≤_, _<_}
+use Prim.Native.Nat.{ℕ, _+_, _*_, _≤_, _<_}
 use native.Mathlib.Omega.{arith}
-use lib.Dec.{eqb, leb}
-use lib.ListN.{length, take, drop, getD, length-append, length-drop}
+use lib.ListN.{length, drop, getD, length-append, length-drop}
 use Rattle.std.specs.Joined.{joined}
 use Rattle.std.specs.Vec.{Every}
 use Rattle.std.specs.declared.option.Option.the-variants.{None}
@@ -13,7 +11,7 @@ use Rattle.std.proofs.shelf.Tests.{and-parts, and-from, leb-true, le-leb, eqb-t
 use Rattle.planning.specs.Checks.{Check, firstFailing}
 use Rattle.sheet_layout.specs.Frame.{Action, ValidAction, KindOf, recordBytes, sheetBytes, headOf, openingChecks}
 use Rattle.sheet_layout.specs.Numbers.{Bytes, be16, be32, byteAt, num16, num32}
-use Rattle.sheet_layout.proofs.Bytewise.{read16, read32, written16, written32, past, next}
+use Rattle.sheet_layout.proofs.Bytewise.{read16, read32, written16, written32, next}
 use Rattle.planning.proofs.Rows.{passed, pass}
 
 -- the opening, written out from what is read

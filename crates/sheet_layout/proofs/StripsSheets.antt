@@ -1,21 +1,20 @@
 -- Fact sheets: the checks pass exactly for the sheets of valid contents.
 use mathlib.Core.Path.{_≡_, refl, sym, ap, subst, _∙_}
-use mathlib.Core.Bool.{true, _&&_}
-use mathlib.Core.List.{List, [], _∷_, _++_, append-assoc}
-use Prim.Native.Nat.{ℕ, _+_, _-_, _*_, _^_, _≤_, _<_}
-use native.Mathlib.Nat.{add-assoc, lt-of-lt-of-le}
+use mathlib.Core.Bool.{true}
+use mathlib.Core.List.{List, _++_, append-assoc}
+use Prim.Native.Nat.{ℕ, _+_, _^_, _≤_, _<_}
 use native.Mathlib.Omega.{arith}
-use lib.ListN.{length, take, drop, getD, length-append, length-drop}
+use lib.ListN.{length, drop, length-append}
 use lib.Pow.{pow-mono}
 use Rattle.std.specs.declared.option.Option.the-variants.{None}
 use Rattle.std.specs.Joined.{joined}
 use Rattle.std.specs.Vec.{Every}
 use Rattle.std.proofs.shelf.Tests.{and-parts, and-from, leb-true, le-leb, ltb-true, lt-ltb}
 use Rattle.planning.specs.Checks.{Check, firstFailing}
-use Rattle.sheet_layout.specs.Frame.{Action, ValidAction, recordBytes, recordsChecks, headOf, headLength, sheetBytes}
-use Rattle.sheet_layout.specs.Numbers.{Bytes, be16, be32, byteAt, num16, num32}
+use Rattle.sheet_layout.specs.Frame.{ValidAction, recordBytes, recordsChecks, headOf, headLength, sheetBytes}
+use Rattle.sheet_layout.specs.Numbers.{Bytes, be32, byteAt, num16, num32}
 use Rattle.sheet_layout.specs.Strips.{Masks, StripsContent, ValidMasks, ValidStrips, masksBytes, stripsBytes, presentMask, stripsKind, stripsHeadChecks, stripsChecks}
-use Rattle.sheet_layout.proofs.Bytewise.{read16, read32, written16, written32, past}
+use Rattle.sheet_layout.proofs.Bytewise.{read32, written32, past}
 use Rattle.sheet_layout.proofs.Framing.{Decodes, actionsFrom, records-sound, records-complete}
 use Rattle.sheet_layout.proofs.Opening.{OpeningPassed, opening-passed, opening-pass, opening-written, whole, records-short}
 use Rattle.planning.proofs.Rows.{passed, pass}

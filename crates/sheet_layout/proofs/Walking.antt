@@ -8,8 +8,8 @@ use lib.ListN.{length, take, drop, set, getD, length-append, take-append-drop}
 use Rattle.std.specs.declared.option.Option.the-variants.{None}
 use Rattle.std.proofs.shelf.Lists.{length-map, length-take-le, length-drop, map-append, drop-drop, drop-more, set-at, take-at, take-all, take-map}
 use Rattle.planning.specs.Checks.{firstFailing}
-use Rattle.sheet_layout.specs.Frame.{Action, KindOf, recordEnd, recordPlace, recordChecks, recordsChecks}
-use Rattle.sheet_layout.proofs.Framing.{Passed, actionAt, actionsFrom, actions-count, actions-on, records-on, record-passed}
+use Rattle.sheet_layout.specs.Frame.{KindOf, recordEnd, recordPlace, recordsChecks}
+use Rattle.sheet_layout.proofs.Framing.{Passed, actionAt, actionsFrom, actions-on, records-on, record-passed}
 
 -- after i of n records, the next stands at p
 pub record Walk {C : Type 0} (k : KindOf) (read : List ℕ → ℕ → C) (bs : List ℕ) (first n i p : ℕ) : Type 0 where

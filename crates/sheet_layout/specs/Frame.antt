@@ -4,7 +4,7 @@
 -- byte 6 is the number of facts or variables; bytes 7 and 8 are the number of actions; then come
 -- the rest of the head and a record for each action. A record is the length of what follows it,
 -- a price, the preconditions and effects, and a name.
-use mathlib.Core.Bool.{Bool, true, false, _&&_, cond}
+use mathlib.Core.Bool.{Bool, _&&_, cond}
 use mathlib.Core.List.{List, [], _∷_, _++_}
 use Prim.Native.Nat.{ℕ, zero, suc, _+_, _*_, _≤_}
 use lib.Dec.{eqb, leb}

@@ -1,6 +1,6 @@
 -- A finite-domain task keeps the ranges of a task.
-use mathlib.Core.Path.{_≡_, refl, sym, ap, subst, _∙_}
-use mathlib.Core.Bool.{Bool, true, false, _&&_, cond}
+use mathlib.Core.Path.{_≡_, refl, sym, ap, subst}
+use mathlib.Core.Bool.{true, false, _&&_}
 use mathlib.Core.List.{List}
 use Prim.Native.Nat.{ℕ, _≤_, _<_}
 use native.Mathlib.Omega.{arith}
@@ -14,7 +14,7 @@ use Rattle.std.specs.declared.option.Option.the-variants.{Some, None}
 use Rattle.std.proofs.shelf.Lists.{length-take}
 use Rattle.std.proofs.shelf.Tests.{and-parts, ltb-true}
 use Rattle.planning.specs.declared.task.Transition.{Transition}
-use Rattle.planning.specs.Task.{Step, TaskLaws}
+use Rattle.planning.specs.Task.{TaskLaws}
 use Rattle.sheet_layout.specs.FiniteDomain.{ValidCount, product}
 use Rattle.sheet_layout.proofs.FiniteDomainHeads.{CountsPassed, counts-told, product-some}
 use Rattle.sheets.specs.FiniteDomainTasks.{decode, applicable, successor, performed, names, countsOf, finiteDomainModel}

@@ -1,15 +1,15 @@
 -- The record at the place of a number is that of the content's action of that number.
-use mathlib.Core.Path.{_≡_, refl, sym, ap, subst, _∙_}
+use mathlib.Core.Path.{_≡_, refl, sym, ap, _∙_}
 use mathlib.Core.Bool.{true}
-use mathlib.Core.List.{List, [], _∷_, _++_}
+use mathlib.Core.List.{List}
 use Prim.Native.Nat.{ℕ, _+_, _-_, _*_, _≤_, _<_}
 use native.Mathlib.Omega.{arith}
-use lib.ListN.{length, take, drop, length-take, length-drop}
+use lib.ListN.{length, take, drop}
 use Rattle.std.specs.Joined.{joined}
 use Rattle.std.specs.declared.option.Option.the-variants.{None}
 use Rattle.std.proofs.shelf.Lists.{take-at}
 use Rattle.planning.specs.Checks.{firstFailing}
-use Rattle.sheet_layout.specs.FiniteDomain.{Assignment, ValidAssignments, assignmentBytes, assignmentsBytes, listEnd, part, readPairs, readList, readAssignments, finiteDomainKind, finiteDomainChecks}
+use Rattle.sheet_layout.specs.FiniteDomain.{ValidAssignments, assignmentBytes, assignmentsBytes, listEnd, part, readPairs, readList, readAssignments, finiteDomainKind, finiteDomainChecks}
 use Rattle.sheet_layout.specs.Frame.{framed, recordBytes, recordEnd, recordPlace}
 use Rattle.sheet_layout.specs.Numbers.{Bytes, byteAt, num16}
 use Rattle.sheet_layout.proofs.Assigning.{countsOf, part-length, pairs-count, pairs-long, pairs-laid, assignments-decode}

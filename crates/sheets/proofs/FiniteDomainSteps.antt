@@ -1,14 +1,14 @@
 -- Lists of values, variable by variable, as the code of a finite-domain task goes through them.
-use mathlib.Core.Path.{_≡_, refl, sym, ap, subst, _∙_}
-use mathlib.Core.Bool.{Bool, true, false, _&&_, _||_, cond}
-use mathlib.Core.List.{List, [], _∷_, _++_, map}
+use mathlib.Core.Path.{_≡_, refl, sym, ap, _∙_}
+use mathlib.Core.Bool.{true, _&&_, _||_, cond}
+use mathlib.Core.List.{List, [], _∷_, _++_}
 use mathlib.Core.Logic.{⊎-elim}
 use Prim.Native.Nat.{ℕ, zero, suc, _+_, _-_, _*_, _/_, _%_, _≤_, _<_}
 use native.Mathlib.Nat.{mul-le-mul-right}
 use native.Mathlib.Omega.{arith}
-use lib.Dec.{eqb, ltb}
+use lib.Dec.{eqb}
 use lib.ListN.{length, getD, take, drop, replicate}
-use Rattle.std.specs.Vec.{Every, Each}
+use Rattle.std.specs.Vec.{Every}
 use Rattle.std.proofs.shelf.Lists.{drop-more, drop-drop, drop-all, getD-past, at-drop-more, at-drop-all, map-id, drop-replicate}
 use Rattle.std.proofs.shelf.Tests.{cases-lt, le-ltb}
 use Rattle.sheet_layout.specs.FiniteDomain.{ValidCount, product, valueOrAny}

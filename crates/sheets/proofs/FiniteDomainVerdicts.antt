@@ -1,16 +1,16 @@
 -- From the checks of a sheet of variables to its content.
-use mathlib.Core.Path.{_≡_, refl, sym, ap, subst, _∙_}
-use mathlib.Core.Bool.{Bool, true, false, _&&_, cond}
+use mathlib.Core.Path.{_≡_, sym, ap, subst, _∙_}
+use mathlib.Core.Bool.{true, false, _&&_, cond}
 use mathlib.Core.List.{List, [], _++_}
 use mathlib.Core.Logic.{⊎-elim}
 use Prim.Native.Nat.{ℕ, _+_, _-_, _*_, _≤_, _<_, min}
 use native.Mathlib.Omega.{arith}
 use lib.Dec.{leb, ltb}
-use lib.ListN.{length, take, drop, getD, replicate}
+use lib.ListN.{length, take, getD, replicate}
 use Rattle.std.specs.declared.option.Option.the-variants.{Some, None}
 use Rattle.std.specs.declared.result.Result.{Result}
 use Rattle.std.specs.declared.result.Result.the-variants.{Ok, Err}
-use Rattle.std.proofs.shelf.Lists.{ext-getD, length-append, length-replicate, getD-append-left, getD-append-right, getD-replicate, getD-past, take-at}
+use Rattle.std.proofs.shelf.Lists.{ext-getD, length-append, length-replicate, getD-append-left, getD-append-right, getD-replicate, take-at}
 use Rattle.std.proofs.shelf.Tests.{cases-bool, cases-lt, and-parts, leb-true, lt-ltb, le-ltb, cond-true, cond-false}
 use Rattle.planning.specs.declared.refusal.Refusal.{Refusal}
 use Rattle.planning.specs.Checks.{firstFailing}
@@ -26,6 +26,7 @@ use Rattle.sheet_layout.proofs.Framing.{actions-count}
 use Rattle.sheet_layout.proofs.Opening.{opening-passed}
 use Rattle.sheets.specs.FiniteDomainReading.{FiniteDomainSheet, FiniteDomainHeadOf, FiniteDomainHeadAt, FiniteDomainChecked, FiniteDomainUnique, padded}
 use Rattle.sheets.specs.declared.head.FiniteDomainHead.{FiniteDomainHead}
+use Rattle.sheets.proofs.LastChecks.{only-one, none-fits}
 
 -- sixteen numbers that are those of a part, and 0 behind it
 pub record Sixteen (bs : List ℕ) (p n : ℕ) (xs : List ℕ) : Type 0 where
@@ -130,15 +131,14 @@ head-of bs h ok at =
       goal = at .goal;
     }
 
+complete : (bs : List ℕ) → Bytes bs → (c : FiniteDomainContent) → FiniteDomainSheet bs c → (firstFailing (finiteDomainChecks bs) ≡ None) × (finiteDomainRead bs ≡ c)
+complete bs small c h = finite-domain-complete bs c small (h .valid) (h .laid)
+
 pub one-content : (bs : List ℕ) → Bytes bs → FiniteDomainUnique bs
-one-content bs small c d hc hd =
-    sym (finite-domain-complete bs c small (hc .valid) (hc .laid) .1) ∙ finite-domain-complete bs d small (hd .valid) (hd .laid) .1
+one-content bs small = only-one (finiteDomainChecks bs) (FiniteDomainSheet bs) (finiteDomainRead bs) (complete bs small)
 
 pub no-content : (bs : List ℕ) (e : Refusal) → Bytes bs → firstFailing (finiteDomainChecks bs) ≡ Some e → (c : FiniteDomainContent) → FiniteDomainSheet bs c → ⊥
-no-content bs e small fails c h =
-    let none = finite-domain-complete bs c small (h .valid) (h .laid) .0 in
-    let z : _≡_ {A = ℕ} 0 1 = cc (fails, none) in
-    omega arith
+no-content bs e small = none-fits (finiteDomainChecks bs) (FiniteDomainSheet bs) (finiteDomainRead bs) (complete bs small) e
 
 pub verdict : (bs : List ℕ) (r : Result FiniteDomainHead Refusal) → Bytes bs → Answers (firstFailing (finiteDomainChecks bs)) (FiniteDomainHeadAt bs) r → FiniteDomainChecked bs r
 verdict bs (Ok h) small a = (finiteDomainRead bs, passes bs small (a .0), head-of bs h (a .0) (a .1))

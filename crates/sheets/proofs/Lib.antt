@@ -3,6 +3,7 @@ pub mod FiniteDomainLaws
 pub mod FiniteDomainRecords
 pub mod FiniteDomainSteps
 pub mod FiniteDomainVerdicts
+pub mod LastChecks
 pub mod Numbering
 pub mod Shifts
 pub mod StripsLaws

@@ -1,16 +1,15 @@
 -- Numbers of states and values of variables stand for each other.
-use mathlib.Core.Path.{_≡_, refl, sym, ap, _∙_}
-use mathlib.Core.Bool.{Bool, true, false, _&&_, _||_, cond}
+use mathlib.Core.Path.{_≡_, refl, ap, _∙_}
+use mathlib.Core.Bool.{true}
 use mathlib.Core.List.{List, [], _∷_}
 use mathlib.Core.Logic.{⊎-elim}
-use Prim.Native.Nat.{ℕ, zero, suc, _+_, _*_, _/_, _%_, _≤_, _<_}
+use Prim.Native.Nat.{ℕ, suc, _+_, _*_, _/_, _%_, _≤_, _<_}
 use native.Mathlib.Nat.{zero-add, mul-le-mul-left, add-mul-mod-self-left, add-mul-div-left, mod-eq-of-lt, div-eq-of-lt, mod-add-div}
 use native.Mathlib.Omega.{arith}
 use lib.Dec.{eqb, ltb}
-use lib.ListN.{length}
-use Rattle.std.specs.Vec.{Every, Each}
+use Rattle.std.specs.Vec.{Every}
 use Rattle.std.proofs.shelf.Bits.{div-below}
-use Rattle.std.proofs.shelf.Tests.{and-parts, or-cases, eqb-true, ltb-true, eqb-false, cases-bool, cond-true, cond-false, cond-both, both-ways}
+use Rattle.std.proofs.shelf.Tests.{and-parts, or-cases, ltb-true, cond-both, both-ways}
 use Rattle.sheet_layout.specs.FiniteDomain.{ValidCount, product, valueOrAny}
 use Rattle.sheets.specs.FiniteDomainTasks.{encode, decode, InRange, Numbering, changed, names}
 

@@ -1,5 +1,5 @@
 -- A STRIPS task keeps the ranges of a task.
-use mathlib.Core.Path.{_≡_, refl, sym, ap, _∙_}
+use mathlib.Core.Path.{_≡_, refl, sym, ap}
 use mathlib.Core.Bool.{Bool, true, false, _&&_, cond}
 use Prim.Native.Nat.{ℕ, _^_, _≤_, _<_}
 use native.Mathlib.Omega.{arith}
@@ -10,7 +10,7 @@ use Rattle.std.specs.declared.option.Option.the-variants.{Some, None}
 use Rattle.std.specs.Finite.{nth}
 use Rattle.std.proofs.shelf.Tests.{and-parts, ltb-true}
 use Rattle.planning.specs.declared.task.Transition.{Transition}
-use Rattle.planning.specs.Task.{Step, TaskLaws}
+use Rattle.planning.specs.Task.{TaskLaws}
 use Rattle.sheets.specs.StripsTasks.{applicable, successor, performed, stripsModel}
 use Rattle.sheets.specs.declared.strips.StripsAction.{StripsAction}
 use Rattle.sheets.specs.declared.strips_task.StripsTask.{StripsTask}

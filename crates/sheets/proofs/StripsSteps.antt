@@ -1,14 +1,12 @@
 -- What the code of a STRIPS task computes is what its definition says.
 use mathlib.Core.Path.{_≡_, refl, sym, ap, _∙_}
-use mathlib.Core.Bool.{Bool, true, false, _&&_, cond}
+use mathlib.Core.Bool.{Bool, true, false, cond}
 use Prim.Native.Nat.{ℕ, _-_, _^_, _≤_, _<_, min}
 use native.Mathlib.Omega.{arith}
 use lib.Bits.{bitAnd, bitOr}
-use lib.Dec.{ltb}
 use Rattle.std.specs.declared.option.Option.{Option}
 use Rattle.std.specs.declared.option.Option.the-variants.{Some, None}
 use Rattle.std.proofs.shelf.Tests.{and-from, and-right, cond-true, cond-false, eq-eqb, ne-eqb, lt-ltb}
-use Rattle.planning.specs.declared.task.Transition.{Transition}
 use Rattle.sheets.specs.StripsTasks.{factsOf, subset, names, applicable, successor, performed}
 use Rattle.sheets.specs.declared.strips.StripsAction.{StripsAction}
 use Rattle.sheets.proofs.FactSets.{contains, applied-set}

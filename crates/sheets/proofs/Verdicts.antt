@@ -1,5 +1,5 @@
 -- From the checks of a fact sheet to its content and its records.
-use mathlib.Core.Path.{_≡_, refl, sym, ap, _∙_}
+use mathlib.Core.Path.{_≡_, sym, ap, _∙_}
 use mathlib.Core.Bool.{true}
 use mathlib.Core.List.{List}
 use Prim.Native.Nat.{ℕ, _+_, _-_, _<_}
@@ -21,6 +21,7 @@ use Rattle.sheets.specs.Reading.{Sheet, HeadAt, HeadOf, StripsChecked, Unique}
 use Rattle.sheets.specs.Records.{StripsAt, StripsRecordOf}
 use Rattle.sheets.specs.declared.head.StripsHead.{StripsHead}
 use Rattle.sheets.specs.declared.record.StripsRecord.{StripsRecord}
+use Rattle.sheets.proofs.LastChecks.{only-one, none-fits}
 
 -- a sheet that passes is that of what is read from it
 pub passes : (bs : List ℕ) → Bytes bs → firstFailing (stripsChecks bs) ≡ None → Sheet bs (stripsRead bs)
@@ -29,15 +30,14 @@ passes bs small e = let h = strips-sound bs small e in record { valid = h .0; la
 pub head-of : (bs : List ℕ) (h : StripsHead) → HeadAt bs h → HeadOf h (stripsRead bs)
 head-of bs h at = record { facts = at .facts; actions = at .actions ∙ sym (actions-count stripsKind readMasks bs (num16 bs 7) 17); start = at .start; goal = at .goal }
 
+complete : (bs : List ℕ) → Bytes bs → (c : StripsContent) → Sheet bs c → (firstFailing (stripsChecks bs) ≡ None) × (stripsRead bs ≡ c)
+complete bs small c h = strips-complete bs c small (h .valid) (h .laid)
+
 pub one-content : (bs : List ℕ) → Bytes bs → Unique bs
-one-content bs small c d hc hd =
-    sym (strips-complete bs c small (hc .valid) (hc .laid) .1) ∙ strips-complete bs d small (hd .valid) (hd .laid) .1
+one-content bs small = only-one (stripsChecks bs) (Sheet bs) (stripsRead bs) (complete bs small)
 
 pub no-content : (bs : List ℕ) (e : Refusal) → Bytes bs → firstFailing (stripsChecks bs) ≡ Some e → (c : StripsContent) → Sheet bs c → ⊥
-no-content bs e small fails c h =
-    let none = strips-complete bs c small (h .valid) (h .laid) .0 in
-    let z : _≡_ {A = ℕ} 0 1 = cc (fails, none) in
-    omega arith
+no-content bs e small = none-fits (stripsChecks bs) (Sheet bs) (stripsRead bs) (complete bs small) e
 
 pub verdict : (bs : List ℕ) (r : Result StripsHead Refusal) → Bytes bs → Answers (firstFailing (stripsChecks bs)) (HeadAt bs) r → StripsChecked bs r
 verdict bs (Ok h) small a = (stripsRead bs, passes bs small (a .0), head-of bs h (a .1))

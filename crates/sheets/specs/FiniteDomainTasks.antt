@@ -3,7 +3,7 @@
 -- Values stand in lists by variable. `counts` has the number of values of each variable. Where values are
 -- named for some variables only, by a goal, by preconditions or by effects, 255 stands for the others.
 use mathlib.Core.Path.{_≡_}
-use mathlib.Core.Bool.{Bool, true, false, _&&_, _||_, cond}
+use mathlib.Core.Bool.{Bool, true, _&&_, _||_, cond}
 use mathlib.Core.List.{List, [], _∷_}
 use Prim.Native.Nat.{ℕ, _+_, _*_, _/_, _%_, _<_, min}
 use lib.Dec.{eqb, ltb}

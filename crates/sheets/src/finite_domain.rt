@@ -23,7 +23,7 @@ use crate::head::FiniteDomainHead;
 use planning::refusal::Refusal;
 
 // What an action needs, and what it sets: values by variable, 255 for the variables that it does not name.
-#[derive(Clone, Copy, PartialEq, Eq, Debug)]
+#[derive(Clone, Copy)]
 pub struct FiniteDomainAction {
     pub preconditions: [u8; 16],
     pub effects: [u8; 16],

@@ -24,7 +24,7 @@ pub struct StripsHead {
 
 // Variables, actions and states, and of each variable its number of values, its value at the start
 // and its value at the goal, 255 for any.
-#[derive(Clone, Copy, PartialEq, Eq, Debug)]
+#[derive(Clone, Copy)]
 pub struct FiniteDomainHead {
     pub variables: u8,
     pub actions: u16,

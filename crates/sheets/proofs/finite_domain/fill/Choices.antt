@@ -1,4 +1,3 @@
-use Prim.Native.Nat.{_+_, _*_}
 use Rattle.sheet_layout.specs.FiniteDomain.{finiteDomainKind, readAssignments}
 use Rattle.sheet_layout.proofs.FiniteDomainSheets.{recordsAt}
 use Rattle.sheet_layout.proofs.Framing.{actionsFrom}

@@ -1,13 +1,12 @@
 use mathlib.Core.Path.{_≡_, sym, ap, _∙_}
-use mathlib.Core.Bool.{true, _&&_}
+use mathlib.Core.Bool.{true}
 use mathlib.Core.List.{List}
 use Prim.Native.Nat.{ℕ, _+_, _-_, _*_, _<_}
 use native.Mathlib.Omega.{arith}
 use lib.Dec.{leb, ltb}
-use lib.ListN.{length, set}
 use Rattle.std.proofs.shelf.Lists.{length-set}
 use Rattle.std.proofs.shelf.Tests.{and-parts, ltb-true}
-use Rattle.sheet_layout.specs.FiniteDomain.{presentPair, presentPairs, readPairs}
+use Rattle.sheet_layout.specs.FiniteDomain.{presentPair, presentPairs}
 use Rattle.sheet_layout.specs.Numbers.{byteAt}
 use Rattle.sheet_layout.proofs.Assigning.{present-on, pairs-on}
 use Rattle.sheets.specs.FiniteDomainReading.{assigned}

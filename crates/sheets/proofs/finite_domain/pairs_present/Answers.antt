@@ -1,9 +1,7 @@
-use mathlib.Core.Path.{_≡_, sym, ap, _∙_}
-use mathlib.Core.Bool.{true, false, _&&_}
-use Prim.Native.Nat.{_+_, _-_, _*_, _<_}
-use native.Mathlib.Omega.{arith}
-use borrow.Author.Needs.{needs}
-use Rattle.std.proofs.shelf.Tests.{and-parts, and-left, ltb-true}
+use mathlib.Core.Path.{sym, ap, _∙_}
+use mathlib.Core.Bool.{_&&_}
+use Prim.Native.Nat.{_+_, _-_, _*_}
+use Rattle.std.proofs.shelf.Tests.{and-left}
 use Rattle.sheet_layout.specs.FiniteDomain.{presentPair, presentPairs}
 use Rattle.sheet_layout.specs.Numbers.{byteAt}
 use Rattle.sheet_layout.proofs.Assigning.{present-on}

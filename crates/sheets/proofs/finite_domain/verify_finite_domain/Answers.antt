@@ -1,12 +1,10 @@
 use mathlib.Core.Path.{_≡_, sym, ap, _∙_}
 use mathlib.Core.List.{_++_}
 use Prim.Native.Nat.{_+_, _*_}
-use lib.ListN.{take}
-use Rattle.std.specs.declared.option.Option.the-variants.{None}
 use Rattle.std.proofs.shelf.Results.{err-from-errBy}
 use Rattle.planning.specs.Checks.{firstFailing}
 use Rattle.planning.proofs.Rows.{after, within}
-use Rattle.sheet_layout.specs.FiniteDomain.{finiteDomainKind, finiteDomainHead, finiteDomainHeadChecks, finiteDomainChecks}
+use Rattle.sheet_layout.specs.FiniteDomain.{finiteDomainKind, finiteDomainHeadChecks, finiteDomainChecks}
 use Rattle.sheet_layout.specs.Frame.{openingChecks, recordsChecks}
 use Rattle.sheet_layout.specs.Numbers.{byteAt, num16}
 use Rattle.sheets.specs.FiniteDomainReading.{FiniteDomainHeadAt}

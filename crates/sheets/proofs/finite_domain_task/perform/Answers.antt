@@ -1,13 +1,7 @@
-use mathlib.Core.Path.{_≡_, refl, sym, ap, subst, _∙_}
-use mathlib.Core.Bool.{true, false, _&&_, cond}
-use mathlib.Core.List.{List}
-use Prim.Native.Nat.{ℕ, _-_}
-use native.Mathlib.Omega.{arith}
-use lib.ListN.{length, take}
-use Rattle.std.specs.Vec.{Every}
+use mathlib.Core.Path.{_≡_, sym, ap, subst, _∙_}
+use mathlib.Core.Bool.{true, false}
 use Rattle.std.specs.declared.option.Option.the-variants.{Some, None}
-use Rattle.std.proofs.shelf.Tests.{and-left, and-right, and-from, cond-true, cond-false}
-use Rattle.sheet_layout.specs.FiniteDomain.{ValidCount}
+use Rattle.std.proofs.shelf.Tests.{and-right, and-from, cond-true, cond-false}
 use Rattle.sheets.specs.FiniteDomainTasks.{encode, decode, InRange, holds, changed, names, applicable, successor}
 use Rattle.sheets.proofs.FiniteDomainSteps.{front, moved}
 use Rattle.sheets.proofs.Numbering.{values-range, changed-range}

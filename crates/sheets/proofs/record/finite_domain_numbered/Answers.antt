@@ -1,18 +1,17 @@
-use mathlib.Core.Path.{_≡_, refl, sym, ap, subst, _∙_}
+use mathlib.Core.Path.{_≡_, sym, ap, subst, _∙_}
 use mathlib.Core.Bool.{true}
-use mathlib.Core.List.{[], _∷_, _++_}
+use mathlib.Core.List.{[], _∷_}
 use Prim.Native.Nat.{_+_, _*_}
 use native.Mathlib.Omega.{arith}
-use Rattle.std.specs.declared.option.Option.the-variants.{None}
 use Rattle.std.proofs.shelf.Results.{err-from-errBy}
-use Rattle.std.proofs.shelf.Tests.{le-ltb}
 use Rattle.planning.specs.Checks.{firstFailing}
-use Rattle.planning.proofs.Rows.{after, within, fail}
+use Rattle.planning.proofs.Rows.{within}
 use Rattle.sheet_layout.specs.FiniteDomain.{finiteDomainKind, finiteDomainChecks}
 use Rattle.sheet_layout.specs.Frame.{recordPlace, recordsChecks, framed}
 use Rattle.sheet_layout.specs.Numbers.{Bytes, num16}
 use Rattle.sheet_layout.proofs.FiniteDomainSheets.{recordsAt, finiteDomainRead, sheet-passed}
 use Rattle.sheets.specs.Records.{FiniteDomainAt, numberCheck}
+use Rattle.sheets.proofs.LastChecks.{number-fails}
 use Rattle.sheets.proofs.FiniteDomainRecords.{fits-there, record-there}
 use Rattle.sheets.proofs.FiniteDomainVerdicts.{passes}
 use Rattle.sheets.proofs.record.finite_domain_numbered.Needs as need
@@ -25,10 +24,8 @@ returns-in-Break-head c =
 
 pub returns-then-number-head : need.returns-then-number-head
 returns-then-number-head c =
-    let bs = c .args .sheet .now in
     let told = c .in-Continue-head .ensures tt in
-    let last = numberCheck (num16 bs 7) (c .args .number) in
-    after (finiteDomainChecks bs) (last ∷ []) (told .0) ∙ fail (last .passes) (last .refusal) None (le-ltb (c .args .number) (num16 bs 7) (omega (arith, told .1 .actions, c .if-number-head .taken)))
+    number-fails (finiteDomainChecks (c .args .sheet .now)) (c .args .number) (c .in-Continue-head .head .actions) _ (told .0) (told .1 .actions) (c .if-number-head .taken)
 
 -- where the records begin, as the code has it
 begin : (c : In-Continue-head) → 9 + 3 * c .in-Continue-head .head .variables ≡ recordsAt (c .args .sheet .now)

@@ -1,16 +1,12 @@
-use mathlib.Core.Path.{_≡_, refl, sym, ap, subst, _∙_}
-use mathlib.Core.List.{[], _∷_, _++_}
+use mathlib.Core.Path.{subst}
 use native.Mathlib.Omega.{arith}
-use Rattle.std.specs.declared.option.Option.the-variants.{None}
 use Rattle.std.proofs.shelf.Results.{err-from-errBy}
-use Rattle.std.proofs.shelf.Tests.{le-ltb}
-use Rattle.planning.specs.Checks.{firstFailing}
-use Rattle.sheet_layout.specs.Frame.{recordPlace, framed}
-use Rattle.sheet_layout.specs.Numbers.{Bytes, num16}
-use Rattle.sheet_layout.specs.Strips.{stripsKind, stripsChecks}
-use Rattle.planning.proofs.Rows.{after, within, fail}
+use Rattle.sheet_layout.specs.Numbers.{Bytes}
+use Rattle.sheet_layout.specs.Strips.{stripsChecks}
+use Rattle.planning.proofs.Rows.{within}
 use Rattle.sheet_layout.proofs.StripsSheets.{stripsRead}
-use Rattle.sheets.specs.Records.{StripsAt, numberCheck}
+use Rattle.sheets.specs.Records.{StripsAt}
+use Rattle.sheets.proofs.LastChecks.{number-fails}
 use Rattle.sheets.proofs.Verdicts.{passes, fits-there, record-there}
 use Rattle.sheets.proofs.record.strips_numbered.Needs as need
 
@@ -21,10 +17,8 @@ returns-in-Break-head c =
 
 pub returns-then-number-head : need.returns-then-number-head
 returns-then-number-head c =
-    let bs = c .args .sheet .now in
     let told = c .in-Continue-head .ensures tt in
-    let last = numberCheck (num16 bs 7) (c .args .number) in
-    after (stripsChecks bs) (last ∷ []) (told .0) ∙ fail (last .passes) (last .refusal) None (le-ltb (c .args .number) (num16 bs 7) (omega (arith, told .1 .actions, c .if-number-head .taken)))
+    number-fails (stripsChecks (c .args .sheet .now)) (c .args .number) (c .in-Continue-head .head .actions) _ (told .0) (told .1 .actions) (c .if-number-head .taken)
 
 pub strips-record-requires : need.strips-record-requires
 strips-record-requires c κs =

@@ -1,14 +1,13 @@
 use mathlib.Core.Path.{_≡_, refl, sym, ap, subst, _∙_}
 use mathlib.Core.List.{List}
-use Prim.Native.Nat.{ℕ, _+_, _≤_, _<_}
+use Prim.Native.Nat.{ℕ, _+_, _<_}
 use native.Mathlib.Omega.{arith}
 use lib.ListN.{length}
-use Rattle.sheet_layout.specs.Frame.{recordsChecks, recordEnd}
 use Rattle.sheet_layout.specs.Numbers.{Bytes, num16}
-use Rattle.sheet_layout.specs.Strips.{StripsContent, stripsKind}
+use Rattle.sheet_layout.specs.Strips.{stripsKind}
 use Rattle.sheet_layout.proofs.Framing.{actionsFrom, actions-count}
-use Rattle.sheet_layout.proofs.StripsSheets.{readMasks, stripsRead, to-records, strips-complete}
-use Rattle.sheet_layout.proofs.Walking.{Walk, Copied, walk-start, walk-passed, walk-item, walk-next, copy-next, copy-end}
+use Rattle.sheet_layout.proofs.StripsSheets.{readMasks, to-records, strips-complete}
+use Rattle.sheet_layout.proofs.Walking.{Walk, walk-start, walk-passed, walk-item, walk-next, copy-next, copy-end}
 use Rattle.sheets.specs.Reading.{tabled, priced}
 use Rattle.sheets.proofs.strips.fill.Needs as need
 

@@ -3,7 +3,7 @@ use Prim.Native.Nat.{ℕ}
 use native.Mathlib.Omega.{arith}
 use lib.ListN.{length}
 use Rattle.sheet_layout.proofs.FiniteDomainHeads.{each-length, plain-passed, plain-pass}
-use Rattle.sheets.specs.FiniteDomainTasks.{encode, InRange, countsOf}
+use Rattle.sheets.specs.FiniteDomainTasks.{encode, InRange}
 use Rattle.sheets.proofs.FiniteDomainLaws.{head-told, ready}
 use Rattle.sheets.proofs.Numbering.{numbering}
 use Rattle.sheets.proofs.head.FiniteDomainHead.state_with.Needs as need
