@@ -437,14 +437,33 @@ mod tests {
         );
         // An action that names an absent value or variable never applies, and a price is capped.
         let absent = [
-            FiniteDomainAction { preconditions: ANY, effects: [2; 16] },
-            FiniteDomainAction { preconditions: [1; 16], effects: ANY },
-            FiniteDomainAction { preconditions: NAMED[0], effects: ANY },
+            FiniteDomainAction {
+                preconditions: ANY,
+                effects: [2; 16],
+            },
+            FiniteDomainAction {
+                preconditions: [1; 16],
+                effects: ANY,
+            },
+            FiniteDomainAction {
+                preconditions: NAMED[0],
+                effects: ANY,
+            },
         ];
-        let other = FiniteDomainTask::new(FiniteDomainHead::new(3, 4, [2; 16], [0; 16], NAMED[2])?, &absent, &[1, 1, 2000000, 1]);
+        let other = FiniteDomainTask::new(
+            FiniteDomainHead::new(3, 4, [2; 16], [0; 16], NAMED[2])?,
+            &absent,
+            &[1, 1, 2000000, 1],
+        );
         check_eq(other.transition(7, 0), None)?;
         check_eq(other.transition(7, 1), None)?;
-        check_eq(other.transition(7, 2), Some(Transition { state: 7, coins: 1000000 }))?;
+        check_eq(
+            other.transition(7, 2),
+            Some(Transition {
+                state: 7,
+                coins: 1000000,
+            }),
+        )?;
         check_eq(other.transition(7, 3), None)?;
         for state in 0u32..9 {
             for action in 0u16..5 {
