@@ -311,6 +311,84 @@ mod tests {
         119,
     ];
 
+    // Three facts, the third the goal, which is added where both others hold; three actions of price 1.
+    const BOTH: [u8; 74] = [
+        1,
+        0,
+        0,
+        0,
+        74,
+        1,
+        3,
+        0,
+        3,
+        0,
+        0,
+        0,
+        0,
+        0,
+        0,
+        0,
+        4,
+        0,
+        17,
+        0,
+        0,
+        0,
+        1,
+        0,
+        0,
+        0,
+        0,
+        0,
+        0,
+        0,
+        1,
+        0,
+        0,
+        0,
+        0,
+        97,
+        0,
+        17,
+        0,
+        0,
+        0,
+        1,
+        0,
+        0,
+        0,
+        0,
+        0,
+        0,
+        0,
+        2,
+        0,
+        0,
+        0,
+        0,
+        98,
+        0,
+        17,
+        0,
+        0,
+        0,
+        1,
+        0,
+        0,
+        0,
+        3,
+        0,
+        0,
+        0,
+        4,
+        0,
+        0,
+        0,
+        0,
+        99,
+    ];
+
     // The number and the place that a sheet is refused with, or zeros where it is accepted.
     fn verdict(sheet: &[u8]) -> (u8, u64) {
         match check_strips(sheet) {
@@ -383,6 +461,7 @@ mod tests {
         longer.push(0)?;
         check_eq(verdict(&longer), (1, 246))?;
         check_eq(verdict(&KEY), (0, 0))?;
+        check_eq(verdict(&BOTH), (0, 0))?;
         check_eq(verdict(&LOST), (0, 0))
     }
 
@@ -460,6 +539,10 @@ mod tests {
             read_strips(&KEY, &mut actions, &mut prices[0..6]).is_ok(),
             false,
         )?;
+        match read_strips(&KEY, &mut [NONE; 7], &mut [9; 6]) {
+            Ok(_) => return Err(Fail::new("accepted")),
+            Err(refusal) => check_eq((refusal.number(), refusal.place()), (9, Place::At(7)))?,
+        }
         check_eq(prices, [9; 8])?;
         check(actions[0].adds == 9)?;
         check(read_strips(&KEY, &mut actions, &mut prices).is_ok())?;
