@@ -1,3 +1,4 @@
+pub mod Described
 pub mod FactSets
 pub mod FiniteDomainLaws
 pub mod FiniteDomainRecords

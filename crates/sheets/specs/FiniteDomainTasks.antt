@@ -4,17 +4,19 @@
 -- named for some variables only, by a goal, by preconditions or by effects, 255 stands for the others.
 use mathlib.Core.Path.{_≡_}
 use mathlib.Core.Bool.{Bool, true, _&&_, _||_, cond}
-use mathlib.Core.List.{List, [], _∷_}
+use mathlib.Core.List.{List, [], _∷_, map}
 use Prim.Native.Nat.{ℕ, _+_, _*_, _/_, _%_, _<_, min}
 use lib.Dec.{eqb, ltb}
-use lib.ListN.{take}
+use lib.ListN.{length, take}
 use Rattle.std.specs.Finite.{nth}
 use Rattle.std.specs.Vec.{Each}
 use Rattle.std.specs.declared.option.Option.{Option}
 use Rattle.std.specs.declared.option.Option.the-variants.{Some, None}
 use Rattle.planning.specs.declared.task.Transition.{Transition}
 use Rattle.planning.specs.Task.{Model}
-use Rattle.sheet_layout.specs.FiniteDomain.{product, valueOrAny}
+use Rattle.sheet_layout.specs.FiniteDomain.{FiniteDomainContent, ValidFiniteDomain, product, valueOrAny}
+use Rattle.sheets.specs.FiniteDomainReading.{FiniteDomainHeadOf, entered}
+use Rattle.sheets.specs.Reading.{Begins, priced}
 use Rattle.sheets.specs.declared.finite_domain.FiniteDomainAction.{FiniteDomainAction}
 use Rattle.sheets.specs.declared.finite_domain_task.FiniteDomainTask.{FiniteDomainTask}
 use Rattle.sheets.specs.declared.head.FiniteDomainHead.{FiniteDomainHead}
@@ -81,12 +83,22 @@ performed counts values (Some x) (Some coins) = cond (applicable counts values x
 abbrev pub countsOf : FiniteDomainHead → List ℕ
 countsOf h = take (h .variables) (h .counts)
 
+-- the task of variables with so many values each and so many actions, with a goal and tables of actions and prices
+abbrev pub finiteDomainOver : List ℕ → ℕ → List ℕ → List FiniteDomainAction → List ℕ → Model
+finiteDomainOver counts count goal actions prices = record {
+  states = product counts;
+  actions = count;
+  transition = λ state action. cond (ltb state (product counts) && ltb action count) (performed counts (decode counts state) (nth actions action) (nth prices action)) None;
+  goal = λ state. ltb state (product counts) && holds goal (decode counts state);
+}
+
 abbrev pub finiteDomainModel : FiniteDomainTask → Model
-finiteDomainModel t =
-    let counts = countsOf (t .head) in
-    record {
-      states = product counts;
-      actions = t .head .actions;
-      transition = λ state action. cond (ltb state (product counts) && ltb action (t .head .actions)) (performed counts (decode counts state) (nth (t .actions .now) action) (nth (t .prices .now) action)) None;
-      goal = λ state. ltb state (product counts) && holds (t .head .goal) (decode counts state);
-    }
+finiteDomainModel t = finiteDomainOver (countsOf (t .head)) (t .head .actions) (t .head .goal) (t .actions .now) (t .prices .now)
+
+-- the task that the content of a sheet describes
+abbrev pub finiteDomainTaskOf : FiniteDomainContent → Model
+finiteDomainTaskOf c = finiteDomainOver (c .counts) (length (c .actions)) (c .goal) (map entered (c .actions)) (map priced (c .actions))
+
+-- over tables that begin with a valid content, under its head, the task is the one that the content describes
+abbrev pub FiniteDomainDescribed : FiniteDomainHead → List FiniteDomainAction → List ℕ → FiniteDomainTask → Type 0
+FiniteDomainDescribed head actions prices t = (c : FiniteDomainContent) → ValidFiniteDomain c → FiniteDomainHeadOf head c → Begins entered (c .actions) actions → Begins priced (c .actions) prices → finiteDomainModel t ≡ finiteDomainTaskOf c

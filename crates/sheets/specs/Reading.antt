@@ -61,6 +61,10 @@ roomCheck needed actions prices = record { passes = leb needed actions && leb ne
 abbrev pub Filled : {C X : Type 0} → (Action C → X) → List (Action C) → List X → List X → Type 0
 Filled f xs table table′ = table′ ≡ map f xs ++ drop (length xs) table
 
+-- a table that begins with the actions
+abbrev pub Begins : {C X : Type 0} → (Action C → X) → List (Action C) → List X → Type 0
+Begins {X = X} f xs table = (rest : List X) × (table ≡ map f xs ++ rest)
+
 -- the tables hold the content, or they are untouched
 abbrev pub StripsReadInto : List ℕ → List StripsAction → List ℕ → List StripsAction → List ℕ → Result StripsHead Refusal → Type 0
 StripsReadInto bs actions prices actions′ prices′ (Ok h) =

@@ -1,4 +1,6 @@
 -- STRIPS: a state is a set of facts; an action needs, deletes and adds facts.
+use mathlib.Core.Path.{_≡_}
+use mathlib.Core.List.{List, map}
 use mathlib.Core.Bool.{Bool, true, not, _&&_, _||_, cond}
 use Prim.Native.Nat.{ℕ, zero, suc, _+_, _/_, _%_, _^_, min}
 use lib.Dec.{eqb, ltb}
@@ -7,6 +9,10 @@ use Rattle.std.specs.declared.option.Option.{Option}
 use Rattle.std.specs.declared.option.Option.the-variants.{Some, None}
 use Rattle.planning.specs.declared.task.Transition.{Transition}
 use Rattle.planning.specs.Task.{Model}
+use lib.ListN.{length}
+use Rattle.sheet_layout.specs.Strips.{StripsContent}
+use Rattle.sheets.specs.Reading.{HeadOf, Begins, tabled, priced}
+use Rattle.sheets.specs.declared.head.StripsHead.{StripsHead}
 use Rattle.sheets.specs.declared.strips.StripsAction.{StripsAction}
 use Rattle.sheets.specs.declared.strips_task.StripsTask.{StripsTask}
 
@@ -51,12 +57,22 @@ performed n state None price = None
 performed n state (Some x) None = None
 performed n state (Some x) (Some coins) = cond (applicable n state x) (Some (successor n state x coins)) None
 
+-- the task of so many facts and actions, with a goal and tables of actions and prices
+abbrev pub stripsOver : ℕ → ℕ → ℕ → List StripsAction → List ℕ → Model
+stripsOver n count goal actions prices = record {
+  states = 2 ^ n;
+  actions = count;
+  transition = λ state action. cond (ltb state (2 ^ n) && ltb action count) (performed n state (nth actions action) (nth prices action)) None;
+  goal = λ state. ltb state (2 ^ n) && subset n (factsOf goal) (factsOf state);
+}
+
 abbrev pub stripsModel : StripsTask → Model
-stripsModel t =
-    let n = t .head .facts in
-    record {
-      states = 2 ^ n;
-      actions = t .head .actions;
-      transition = λ state action. cond (ltb state (2 ^ n) && ltb action (t .head .actions)) (performed n state (nth (t .actions .now) action) (nth (t .prices .now) action)) None;
-      goal = λ state. ltb state (2 ^ n) && subset n (factsOf (t .head .goal)) (factsOf state);
-    }
+stripsModel t = stripsOver (t .head .facts) (t .head .actions) (t .head .goal) (t .actions .now) (t .prices .now)
+
+-- the task that the content of a sheet describes
+abbrev pub stripsTaskOf : StripsContent → Model
+stripsTaskOf c = stripsOver (c .facts) (length (c .actions)) (c .goal) (map tabled (c .actions)) (map priced (c .actions))
+
+-- over tables that begin with the content, under its head, the task is the one that the content describes
+abbrev pub StripsDescribed : StripsHead → List StripsAction → List ℕ → StripsTask → Type 0
+StripsDescribed head actions prices t = (c : StripsContent) → HeadOf head c → Begins tabled (c .actions) actions → Begins priced (c .actions) prices → stripsModel t ≡ stripsTaskOf c

@@ -7,7 +7,7 @@ ghost use Rattle.std.specs.Vec.{Every};
 ghost use Rattle.std.specs.declared.option.Option.the-variants.{Some, None};
 ghost use Rattle.sheet_layout.specs.FiniteDomain.{ValidCount, product};
 ghost use Rattle.sheets.specs.FiniteDomainReading.{padded};
-ghost use Rattle.sheets.specs.FiniteDomainTasks.{encode as encodes, decode as decodes, InRange, holds, changed as changes, names, applicable, successor, countsOf, Numbering, StateWith, finiteDomainModel};
+ghost use Rattle.sheets.specs.FiniteDomainTasks.{encode as encodes, decode as decodes, InRange, holds, changed as changes, names, applicable, successor, countsOf, Numbering, StateWith, finiteDomainModel, FiniteDomainDescribed};
 ghost use lib.Dec.{ltb};
 use crate::bytes::byte_at;
 use crate::finite_domain::FiniteDomainAction;
@@ -30,7 +30,8 @@ impl<'a> FiniteDomainTask<'a> {
         actions: &'a [FiniteDomainAction],
         prices: &'a [u32],
     ) -> FiniteDomainTask<'a>
-        ensures { λ r. ⌜ (r .head ≡ head) × (r .actions .now ≡ now (actions .entry)) × (r .prices .now ≡ now (prices .entry)) ⌝ }
+        ensures over { λ r. ⌜ (r .head ≡ head) × (r .actions .now ≡ now (actions .entry)) × (r .prices .now ≡ now (prices .entry)) ⌝ }
+        ensures described { λ r. ⌜ FiniteDomainDescribed head (now (actions .entry)) (now (prices .entry)) r ⌝ }
     {
         FiniteDomainTask {
             head,

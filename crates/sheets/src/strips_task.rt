@@ -3,7 +3,7 @@ ghost use mathlib.Core.Path.{_≡_};
 ghost use mathlib.Core.Bool.{cond};
 ghost use Prim.Native.Nat.{_^_, _≤_, _<_};
 ghost use Rattle.std.specs.declared.option.Option.the-variants.{Some, None};
-ghost use Rattle.sheets.specs.StripsTasks.{applicable, successor, stripsModel};
+ghost use Rattle.sheets.specs.StripsTasks.{applicable, successor, stripsModel, StripsDescribed};
 use crate::head::StripsHead;
 use crate::strips::StripsAction;
 use crate::strips::holds_only;
@@ -19,7 +19,8 @@ pub struct StripsTask<'a> {
 
 impl<'a> StripsTask<'a> {
     pub fn new(head: StripsHead, actions: &'a [StripsAction], prices: &'a [u32]) -> StripsTask<'a>
-        ensures { λ r. ⌜ (r .head ≡ head) × (r .actions .now ≡ now (actions .entry)) × (r .prices .now ≡ now (prices .entry)) ⌝ }
+        ensures over { λ r. ⌜ (r .head ≡ head) × (r .actions .now ≡ now (actions .entry)) × (r .prices .now ≡ now (prices .entry)) ⌝ }
+        ensures described { λ r. ⌜ StripsDescribed head (now (actions .entry)) (now (prices .entry)) r ⌝ }
     {
         StripsTask {
             head,
