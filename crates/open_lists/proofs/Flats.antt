@@ -18,7 +18,7 @@ use Rattle.open_lists.specs.declared.flat.Slot.{Slot}
 use Rattle.open_lists.specs.Flats.{Scanned, LeastBelow, bestBelow, betterEntry, better, labelIn, slotLabel, flatWaiting, flatNext}
 use Rattle.heap_order.specs.Order.{ahead, roomOf}
 use Rattle.open_lists.proofs.Fields.{field-set}
-use Rattle.heap_order.proofs.Earlier.{not-itself, one-way, chain}
+use Rattle.planning.proofs.Labels.{not-after-self, not-after-trans, earlier-not-after}
 
 module _ {K : Type 0} (a : Algebra K) (w : Waiting K) (n : ℕ) where
   passed : (best : Option (Entry K)) → w n ≡ None → Scanned a w n best → Scanned a w (suc n) best
@@ -37,14 +37,14 @@ module _ {K : Type 0} (a : Algebra K) (w : Waiting K) (n : ℕ) where
     at-n = rw here stands
 
     newer : (q : ℕ) (y : Label K) → (q < n → earlier a y (labelOf e) ≡ false) → q < suc n → w q ≡ Some y → earlier a y (labelOf e) ≡ false
-    newer q y before h at = grind (arith, cases-eq q n, not-itself a laws y)
+    newer q y before h at = grind (arith, cases-eq q n, not-after-self a laws y)
 
     chosen : (b : Entry K) (t : Bool) → earlier a (labelOf e) (labelOf b) ≡ t → Scanned a w n (Some b) → Scanned a w (suc n) (Some (cond t e b))
     chosen b true first s = (
       record {
         below = omega arith;
         stands = at-n;
-        least = λ q y h at. newer q y (λ l. chain a laws (labelOf e) (labelOf b) y (one-way a laws (labelOf e) (labelOf b) first) (s .0 .least q y l at)) h at;
+        least = λ q y h at. newer q y (λ l. not-after-trans a laws (labelOf e) (labelOf b) y (earlier-not-after a laws (labelOf e) (labelOf b) first) (s .0 .least q y l at)) h at;
       },
       let a1 = s .1 in let a2 = s .0 .stands in cc,
     )
