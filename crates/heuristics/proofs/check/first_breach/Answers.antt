@@ -7,7 +7,7 @@ use Rattle.heuristics.proofs.check.first_breach.Goals as goal
 pub loop-action-preserved : goal.loop-action-preserved
 loop-action-preserved g c = (
   c.loop-action.invariant.0,
-  below_more _ _ c.loop-action.invariant.1 (c.keeps-action.ensures.0 c.if-not-keeps-action.false),
+  below_more _ _ c.loop-action.invariant.1 (c.keeps_action.ensures.0 c.if-not-keeps_action.false),
 )
 
 pub loop-state-preserved : goal.loop-state-preserved

@@ -4,5 +4,5 @@ use Rattle.heuristics.proofs.check.keeps_action.Goals as goal
 
 pub returns : goal.returns
 returns g c =
-    keeps_decides (g.T.Task.model c.args.task.now) c.args.numbers.now c.args.state c.args.action c.in-Some.to c.number.result c.number-2.result c.falls-at-most.result
-    (sym c.in-Some.ensures) c.number.ensures c.number-2.ensures c.falls-at-most.ensures
+    keeps_decides (g.T.Task.model c.args.task.now) c.args.numbers.now c.args.state c.args.action c.in-Some.to c.number.result c.number-2.result c.falls_at_most.result
+    (sym c.in-Some.ensures) c.number.ensures c.number-2.ensures c.falls_at_most.ensures

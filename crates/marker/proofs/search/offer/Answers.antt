@@ -39,7 +39,7 @@ returns-in-Some g c =
     record {
       offered = λ o.
           let put = there c.put.result (c.put.ensures.refused o) (c.put.ensures.put o) (λ h. omega (arith, h.0, c.requires.list)) in
-          offer-put _ _ _ _ (labelled c.args.cost c.args.tagged) xs w _ at w' c.in-Some.estimate (sym c.is-taken.ensures ∙ c.if-not-is-taken.false) (sym c.estimate.ensures ∙ c.in-Some.is)
+          offer-put _ _ _ _ (labelled c.args.cost c.args.tagged) xs w _ at w' c.in-Some.estimate (sym c.is_taken.ensures ∙ c.if-not-is_taken.false) (sym c.estimate.ensures ∙ c.in-Some.is)
           (subst (λ front. Put w w' c.args.state front c.args.tagged) c.plus.ensures put.1);
       ordered = c.put.ensures.ordered;
       room = c.put.ensures.room;

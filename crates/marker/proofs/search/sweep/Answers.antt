@@ -4,7 +4,7 @@ use Rattle.planning.specs.Search.{Swept, none, offer}
 use Rattle.planning.proofs.Steps.{swept-idle, swept-offer, swept-to}
 use Rattle.marker.specs.Calls.{labelled, memory_of}
 use Rattle.marker.proofs.search.sweep.Goals as goal
-use Rattle.marker.proofs.search.sweep.Goals.{in-Some, in-default}
+use Rattle.marker.proofs.search.sweep.Goals.{in-Some, in_default}
 
 pub loop-action-init : goal.loop-action-init
 loop-action-init g c = (λ _. none, λ o. o, refl)
@@ -28,7 +28,7 @@ loop-action-preserved g c =
             λ o. w.offer.ensures.ordered (inv.1 o),
             w.offer.ensures.room ∙ inv.2,
           )
-      | in-default w ↦ rw (w.list-is, w.table-is) (λ o. swept-idle (inv.0 o) (sym c.transition.ensures ∙ w.in-default.is), inv.1, inv.2)
+      | in_default w ↦ rw (w.list-is, w.table-is) (λ o. swept-idle (inv.0 o) (sym c.transition.ensures ∙ w.in-default.is), inv.1, inv.2)
     ]
 
 pub returns : goal.returns

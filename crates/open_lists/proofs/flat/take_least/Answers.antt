@@ -4,5 +4,5 @@ use Rattle.open_lists.proofs.flat.take_least.Goals as goal
 
 pub returns : goal.returns
 returns g c =
-    let s = c.in-ok-entry.ensures in
-    record { scanned = s; taken = written c.args.slots.now c.in-ok-entry.entry.state _ (omega (arith, s.0.below)) }
+    let s = c.in_ok-entry.ensures in
+    record { scanned = s; taken = written c.args.slots.now c.in_ok-entry.entry.state _ (omega (arith, s.0.below)) }

@@ -13,15 +13,15 @@ formed bs long fits all = pass (well_formed bs).passes (well_formed bs).refusal 
 pub returns : goal.returns
 returns c =
     let bs = c.args.input.now in
-    let end : c.from-be-bytes-end.result ≡ num32 bs 1 = search rules in
-    let count : c.from-be-bytes-count.result ≡ num16 bs (num32 bs 1) = c.from-be-bytes-count.ensures ∙ ap (num16 bs) end in
+    let end : c.from_be_bytes-end.result ≡ num32 bs 1 = search rules in
+    let count : c.from_be_bytes-count.result ≡ num16 bs (num32 bs 1) = c.from_be_bytes-count.ensures ∙ ap (num16 bs) end in
     let fits : num32 bs 1 + 2 ≤ length bs = omega (arith, end, c.if-given-end.false) in
     let all : length bs ≡ num32 bs 1 + 2 + 6 * num16 bs (num32 bs 1) = c.if-given-end-2.false ∙ (λ i. end i + 2 + 6 * count i) in
     let long : 5 ≤ length bs = search rules in (
       formed bs long fits all,
       record {
         input = refl;
-        sheet = ap (λ n. take n bs) (let e : c.from-be-bytes-end.result - 0 ≡ num32 bs 1 = omega (arith, end) in e);
+        sheet = ap (λ n. take n bs) (let e : c.from_be_bytes-end.result - 0 ≡ num32 bs 1 = omega (arith, end) in e);
         count = count;
         place = ap (λ n. n + 2) end;
         whole = c.if-given-end-2.false;

@@ -5,5 +5,5 @@ use Rattle.sheets.proofs.finite_domain.check_finite_domain.Goals as goal
 
 pub returns : goal.returns
 returns c =
-    let small : Bytes c.args.sheet.now = λ i. omega (arith, c.type-inv.sheet i) in
-    record { checked = verdict _ _ small c.verify-finite-domain.ensures; unique = one_content _ small }
+    let small : Bytes c.args.sheet.now = λ i. omega (arith, c.type_inv.sheet i) in
+    record { checked = verdict _ _ small c.verify_finite_domain.ensures; unique = one_content _ small }

@@ -26,7 +26,7 @@ loop-i-preserved c =
     let i = c.loop-i.i in
     let f = passing c.args.any in
     ap (λ p. first_failing (values_checks f (drop (i + 1) ns) (drop (i + 1) vs) p)) (omega arith)
-    ∙ sym (pass (f (get_or vs i 0) (get_or ns i 0)) _ _ (sym c.if-not-is-value.ensures))
+    ∙ sym (pass (f (get_or vs i 0) (get_or ns i 0)) _ _ (sym c.if-not-is_value.ensures))
     ∙ sym (values-on f ns vs c.requires.same i (c.args.first + i) c.loop-i-test.true)
     ∙ c.loop-i.invariant
 

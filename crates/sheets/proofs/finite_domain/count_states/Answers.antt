@@ -13,7 +13,7 @@ overflow-mul-states c =
 pub loop-count-preserved : goal.loop-count-preserved
 loop-count-preserved c =
     let ns = c.args.counts.now in
-    let i = c.loop-count.count_index in
+    let i = c.loop-count.count-index in
     let s = c.loop-count.states in
     let n = get_or ns i 0 in
     let rest = product (drop (i + 1) ns) in
@@ -30,5 +30,5 @@ pub returns : goal.returns
 returns c =
     let ns = c.args.counts.now in
     let s = c.loop-count.states in
-    let e = at_drop_all (λ l. min (s * product l) 65537) ns c.loop-count.count_index c.loop-count-test.false in
+    let e = at_drop_all (λ l. min (s * product l) 65537) ns c.loop-count.count-index c.loop-count-test.false in
     omega (arith, e, c.loop-count.invariant.2, c.loop-count.invariant.0, mul-one s)

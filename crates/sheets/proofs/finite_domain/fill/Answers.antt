@@ -15,7 +15,7 @@ loop-i-init c =
     let told = sheet_passed bs c.requires.passes in
     let first = records_at bs in
     let start = walk_start finite_domain_kind read_assignments bs first (num16 bs 7) told.long told.records in
-    let here : first ≡ 9 + 3 * c.byte-at.result = ap (λ d. 9 + 3 * d) (sym c.byte-at.ensures) in (
+    let here : first ≡ 9 + 3 * c.byte_at.result = ap (λ d. 9 + 3 * d) (sym c.byte_at.ensures) in (
       subst (Walk finite_domain_kind read_assignments bs first c.args.count 0) here (subst (λ n. Walk finite_domain_kind read_assignments bs first n 0 first) (sym c.requires.count) start),
       refl,
       refl,
@@ -57,16 +57,16 @@ loop-i-preserved c =
     let first = records_at bs in
     let all = actions_from finite_domain_kind read_assignments bs n first in
     let item = walk-item finite_domain_kind read_assignments bs first n i p w more in (
-      subst (λ m. Walk finite_domain_kind read_assignments bs first n (i + 1) (p + 2 + m)) (sym c.u16-at.ensures) (walk-next finite_domain_kind read_assignments bs first n i p w more),
-      copy-next entered all c.args.actions.now i c.loop-i.actions c.lists-at.result _ _ c.loop-i.invariant.1 (omega (arith, c.requires.room)) item c.lists-at.ensures,
-      copy-next priced all c.args.prices.now i c.loop-i.prices c.u32-at.result _ _ c.loop-i.invariant.2 (omega (arith, c.requires.room)) item c.u32-at.ensures,
+      subst (λ m. Walk finite_domain_kind read_assignments bs first n (i + 1) (p + 2 + m)) (sym c.u16_at.ensures) (walk-next finite_domain_kind read_assignments bs first n i p w more),
+      copy-next entered all c.args.actions.now i c.loop-i.actions c.lists_at.result _ _ c.loop-i.invariant.1 (omega (arith, c.requires.room)) item c.lists_at.ensures,
+      copy-next priced all c.args.prices.now i c.loop-i.prices c.u32_at.result _ _ c.loop-i.invariant.2 (omega (arith, c.requires.room)) item c.u32_at.ensures,
     )
 
 pub returns : goal.returns
 returns c content h =
     let bs = c.args.sheet.now in
     let n = c.args.count in
-    let small : Bytes bs = λ i. omega (arith, c.type-inv.sheet i) in
+    let small : Bytes bs = λ i. omega (arith, c.ok.sheet i) in
     let first = records_at bs in
     let all = actions_from finite_domain_kind read_assignments bs n first in
     let is : all ≡ content.actions =

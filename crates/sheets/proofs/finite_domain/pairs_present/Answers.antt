@@ -23,4 +23,4 @@ loop-i-preserved c =
     let p = c.args.first in
     let least = c.loop-i.least in
     let rest = present_pairs bs (n - (i + 1)) (p + 2 * (i + 1)) (byte_at bs (p + 2 * i) + 1) in
-    ap (λ b. b && rest) c.if-not-pair-present.ensures ∙ sym (present_on bs n i p least c.loop-i-test.true) ∙ c.loop-i.invariant
+    ap (λ b. b && rest) c.if-not-pair_present.ensures ∙ sym (present_on bs n i p least c.loop-i-test.true) ∙ c.loop-i.invariant

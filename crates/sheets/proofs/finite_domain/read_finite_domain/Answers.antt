@@ -16,13 +16,13 @@ returns-in-err-head c =
 
 pub returns-then-actions-needed : goal.returns-then-actions-needed
 returns-then-actions-needed c =
-    let told = c.in-ok-head.ensures in
-    (room_fails (finite_domain_checks c.args.sheet.now) c.in-ok-head.head.actions (length c.args.actions.now) (length c.args.prices.now) _ told.0 told.1.actions c.then-actions-needed.either, refl, refl)
+    let told = c.in_ok-head.ensures in
+    (room_fails (finite_domain_checks c.args.sheet.now) c.in_ok-head.head.actions (length c.args.actions.now) (length c.args.prices.now) _ told.0 told.1.actions c.then-actions-needed.either, refl, refl)
 
 pub returns : goal.returns
 returns c =
     let bs = c.args.sheet.now in
-    let small : Bytes bs = λ i. omega (arith, c.type-inv.sheet i) in
+    let small : Bytes bs = λ i. omega (arith, c.ok.sheet i) in
     let told = c.in-ok-head.ensures in
     let sheet = passes bs small told.0 in
     let filled = c.fill.ensures (finite_domain_read bs) sheet in

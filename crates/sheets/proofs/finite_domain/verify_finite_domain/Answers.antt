@@ -10,7 +10,7 @@ use Rattle.sheets.proofs.FiniteDomainVerdicts.{Copied, head-same, head_done}
 use Rattle.sheets.proofs.finite_domain.verify_finite_domain.Goals as goal
 use Rattle.sheets.proofs.finite_domain.verify_finite_domain.Goals.{After-sixteen-3, In-ok-head}
 
-copied : (c : After-sixteen-3) → Copied c.args.sheet.now c.in-ok-opening.opening.size c.sixteen.result c.sixteen-2.result c.sixteen-3.result
+copied : (c : After-sixteen-3) → Copied c.args.sheet.now c.in_ok-opening.opening.size c.sixteen.result c.sixteen-2.result c.sixteen-3.result
 copied c = record {
   counts = record { long = c.sixteen.ensures.0; each = c.sixteen.ensures.1 };
   start = record { long = c.sixteen-2.ensures.0; each = c.sixteen-2.ensures.1 };

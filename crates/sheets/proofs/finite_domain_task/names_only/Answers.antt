@@ -25,7 +25,7 @@ loop-i-preserved c =
     let ns = c.args.counts.now in
     let i = c.loop-i.i in
     let low : i < length xs = omega (arith, c.told-named, c.loop-i-test.true) in
-    ap (λ b. b && names (drop (i + 1) ns) (drop (i + 1) xs)) (tested (get_or xs i 0) c.byte-at.result (get_or ns i 0) _ c.if-not-is-value.ensures c.byte-at.ensures)
+    ap (λ b. b && names (drop (i + 1) ns) (drop (i + 1) xs)) (tested (get_or xs i 0) c.byte_at.result (get_or ns i 0) _ c.if-not-is_value.ensures c.byte_at.ensures)
     ∙ sym (names_on ns xs i low)
     ∙ c.loop-i.invariant
 

@@ -18,7 +18,7 @@ encode-requires c =
     let ns = c.args.counts.now in
     let s = c.args.state in
     let x = c.args.action.now in
-    let range = changed_range ns x.effects (decode ns s) (sym c.if-not-names-only-2.ensures) (values_range ns s c.requires.valid) in
+    let range = changed_range ns x.effects (decode ns s) (sym c.if-not-names_only-2.ensures) (values_range ns s c.requires.valid) in
     record {
       valid = c.requires.valid;
       few = c.requires.states;
@@ -33,6 +33,6 @@ returns c =
     let x = c.args.action.now in
     let has : holds x.preconditions vs ≡ true = sym (ap (holds x.preconditions) (front ns c.decode-values.result s c.decode-values.ensures)) ∙ sym c.if-not-satisfied.ensures in
     let ready : applicable ns vs x ≡ true =
-    and_from (names ns x.preconditions) _ (sym c.if-not-names-only.ensures) (and_from (names ns x.effects) (holds x.preconditions vs) (sym c.if-not-names-only-2.ensures) has) in
+    and_from (names ns x.preconditions) _ (sym c.if-not-names_only.ensures) (and_from (names ns x.effects) (holds x.preconditions vs) (sym c.if-not-names_only-2.ensures) has) in
     let to : c.encode.result ≡ encode ns (changed x.effects vs) = c.encode.ensures ∙ ap (encode ns) (moved ns c.decode-values.result c.changed-after.result x.effects s c.decode-values.ensures c.changed-after.ensures) in
     (λ i. Some (record { state = to i; coins = c.min.ensures i })) ∙ sym (cond-true (applicable ns vs x) (Some (successor ns vs x c.args.price)) None ready)

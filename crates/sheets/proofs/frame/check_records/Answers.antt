@@ -19,7 +19,7 @@ pub loop-i-preserved : goal.loop-i-preserved
 loop-i-preserved g c =
     let k = g.K.SheetKind.kind in
     let bs = c.args.sheet.now in
-    let told = c.in-ok-at.ensures in
+    let told = c.in_ok-at.ensures in
     let left = c.args.count - (c.loop-i.i + 1) in
     let on = records_on k bs c.args.count c.loop-i.i c.loop-i.at c.loop-i-test.true in (
       told.1.1,

@@ -31,7 +31,7 @@ loop-i-preserved g c =
     let i = c.loop-i.i in
     let more : i < c.args.count = omega (arith, c.loop-i-test.true, c.requires.below) in
     let next = walk-next g.K.SheetKind.kind (λ bs p. tt) bs c.args.first c.args.count i c.loop-i.at c.loop-i.invariant.1 more in
-    let e : c.loop-i.at + 2 + c.u16-at.result ≡ record_end bs c.loop-i.at = ap (λ m. c.loop-i.at + 2 + m) c.u16-at.ensures in (
+    let e : c.loop-i.at + 2 + c.u16_at.result ≡ record_end bs c.loop-i.at = ap (λ m. c.loop-i.at + 2 + m) c.u16_at.ensures in (
       e ∙ ap (record_end bs) c.loop-i.invariant.0 ∙ sym (place_next bs i c.args.first),
       subst (Walk {C = Unit {0}} g.K.SheetKind.kind (λ bs p. tt) bs c.args.first c.args.count (i + 1)) (sym e) next,
     )

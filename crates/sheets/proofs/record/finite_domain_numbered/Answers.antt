@@ -20,8 +20,8 @@ returns-in-err-head c =
 
 pub returns-then-number-head : goal.returns-then-number-head
 returns-then-number-head c =
-    let told = c.in-ok-head.ensures in
-    number_fails (finite_domain_checks c.args.sheet.now) c.args.number c.in-ok-head.head.actions _ told.0 told.1.actions c.if-number-head.true
+    let told = c.in_ok-head.ensures in
+    number_fails (finite_domain_checks c.args.sheet.now) c.args.number c.in_ok-head.head.actions _ told.0 told.1.actions c.if-number-head.true
 
 -- where the records begin, as the code has it
 begin : (c : In-ok-head) → 9 + 3 * c.in-ok-head.head.variables ≡ records_at c.args.sheet.now

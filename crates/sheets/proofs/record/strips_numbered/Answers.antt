@@ -16,8 +16,8 @@ returns-in-err-head c =
 
 pub returns-then-number-head : goal.returns-then-number-head
 returns-then-number-head c =
-    let told = c.in-ok-head.ensures in
-    number_fails (strips_checks c.args.sheet.now) c.args.number c.in-ok-head.head.actions _ told.0 told.1.actions c.if-number-head.true
+    let told = c.in_ok-head.ensures in
+    number_fails (strips_checks c.args.sheet.now) c.args.number c.in_ok-head.head.actions _ told.0 told.1.actions c.if-number-head.true
 
 pub strips-record-requires : goal.strips-record-requires
 strips-record-requires c =
@@ -29,7 +29,7 @@ strips-record-requires c =
 pub returns : goal.returns
 returns c =
     let bs = c.args.sheet.now in
-    let small : Bytes bs = λ i. omega (arith, c.type-inv.sheet i) in
+    let small : Bytes bs = λ i. omega (arith, c.ok.sheet i) in
     let told = c.in-ok-head.ensures in
     let there = subst (λ p. StripsAt bs p c.strips-record.result) c.locate-at.ensures c.strips-record.ensures in
     (strips_read bs, passes bs small told.0, record-there bs small told.0 c.args.number (omega (arith, told.1.actions, c.if-number-head.false)) c.strips-record.result there)

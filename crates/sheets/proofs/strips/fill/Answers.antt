@@ -39,18 +39,18 @@ loop-i-preserved c =
     let more = c.loop-i-test.true in
     let all = actions_from strips_kind read_masks bs n 17 in
     let item = walk-item strips_kind read_masks bs 17 n i p w more in
-    let e = c.masks-at.ensures in (
-      subst (λ m. Walk strips_kind read_masks bs 17 n (i + 1) (p + 2 + m)) (sym c.u16-at.ensures) (walk-next strips_kind read_masks bs 17 n i p w more),
-      copy-next tabled all c.args.actions.now i c.loop-i.actions c.masks-at.result _ _ c.loop-i.invariant.1 (omega (arith, c.requires.room)) item
+    let e = c.masks_at.ensures in (
+      subst (λ m. Walk strips_kind read_masks bs 17 n (i + 1) (p + 2 + m)) (sym c.u16_at.ensures) (walk-next strips_kind read_masks bs 17 n i p w more),
+      copy-next tabled all c.args.actions.now i c.loop-i.actions c.masks_at.result _ _ c.loop-i.invariant.1 (omega (arith, c.requires.room)) item
           (λ j. record { preconditions = e.0 j; adds = e.1 j; deletes = e.2 j }),
-      copy-next priced all c.args.prices.now i c.loop-i.prices c.u32-at.result _ _ c.loop-i.invariant.2 (omega (arith, c.requires.room)) item c.u32-at.ensures,
+      copy-next priced all c.args.prices.now i c.loop-i.prices c.u32_at.result _ _ c.loop-i.invariant.2 (omega (arith, c.requires.room)) item c.u32_at.ensures,
     )
 
 pub returns : goal.returns
 returns c content h =
     let bs = c.args.sheet.now in
     let n = c.args.count in
-    let small : Bytes bs = λ i. omega (arith, c.type-inv.sheet i) in
+    let small : Bytes bs = λ i. omega (arith, c.ok.sheet i) in
     let all = actions_from strips_kind read_masks bs n 17 in
     let is : all ≡ content.actions =
     ap (λ m. actions_from strips_kind read_masks bs m 17) c.requires.count ∙ ap (λ x. x.actions) (strips_complete bs content small h.valid h.laid).1 in

@@ -9,4 +9,4 @@ pub returns-then-not-holds-only : goal.returns-then-not-holds-only
 returns-then-not-holds-only c = strange c.args.facts c.args.state c.args.action.now c.args.price (sym c.if-not-holds-only.ensures)
 
 pub returns : goal.returns
-returns c = performs _ _ _ _ _ c.requires.0 c.requires.1 c.if-state-preconditions.false (sym c.if-not-holds-only.ensures) c.min.ensures
+returns c = performs _ _ _ _ _ c.requires.0 c.requires.1 c.if-state-preconditions.false (sym c.if-not-holds_only.ensures) c.min.ensures

@@ -8,11 +8,11 @@ pub returns : goal.returns
 returns g c =
     let a = g.K.CostAlgebra.algebra in
     let xs = c.args.self.now.slots.now in
-    let r = c.take-least.result in
-    let s = reached a (slot_label xs) _ _ r r c.capacity-states.ensures refl c.take-least.ensures.scanned in
+    let r = c.take_least.result in
+    let s = reached a (slot_label xs) _ _ r r c.capacity-states.ensures refl c.take_least.ensures.scanned in
     record {
       least = λ _. shown a xs r s;
-      taken = λ _. freed xs c.take-least.new.slots c.take-least.auto.slots a r s c.take-least.ensures.taken;
+      taken = λ _. freed xs c.take_least.new.slots c.take_least.auto.slots a r s c.take_least.ensures.taken;
       ordered = λ _. tt;
-      room = ap room_of c.take-least.auto.slots;
+      room = ap room_of c.take_least.auto.slots;
     }

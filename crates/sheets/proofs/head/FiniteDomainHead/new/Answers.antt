@@ -47,8 +47,8 @@ valued c =
     let d = c.args.variables in
     let e = ap product (cut d c.args.counts) in
     start-row d c.args.actions (take d c.args.counts) (take d c.args.start) (take d c.args.goal) (c.if-variables-lt1.false, c.if-variables-gt16.false) (c.if-actions-lt1.false, c.if-actions-gt512.false)
-    (ap (λ l. first_failing (counts_checks l 9)) (sym (cut d c.args.counts)) ∙ c.in-ok-check-counts.ensures.0)
-    (omega (arith, e, c.count-states-states.ensures, c.if-states-gt65536.false))
+    (ap (λ l. first_failing (counts_checks l 9)) (sym (cut d c.args.counts)) ∙ c.in_ok-check_counts.ensures.0)
+    (omega (arith, e, c.count_states-states.ensures, c.if-states-gt65536.false))
 
 pub returns-in-err-check-values : goal.returns-in-err-check-values
 returns-in-err-check-values c =

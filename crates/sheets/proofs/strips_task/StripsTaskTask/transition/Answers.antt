@@ -35,7 +35,7 @@ returns c =
     let a = c.args.action in
     let x = slice_get-get_or t.actions.now a _ c.if-at-self.false in
     let price = slice_get-get_or t.prices.now a 0 c.if-at-self-2.false in
-    let inside = and_from (ltb s (2 ^ n)) (ltb a t.head.actions) (sym c.if-not-holds-only.ensures) (lt-ltb a t.head.actions c.if-action-self.false) in
+    let inside = and_from (ltb s (2 ^ n)) (ltb a t.head.actions) (sym c.if-not-holds_only.ensures) (lt-ltb a t.head.actions c.if-action-self.false) in
     c.perform.ensures
     ∙ sym (λ i. performed n s (x i) (price i))
     ∙ sym (cond-true (ltb s (2 ^ n) && ltb a t.head.actions) (performed n s (slice_get t.actions.now a) (slice_get t.prices.now a)) None inside)
