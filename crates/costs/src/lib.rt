@@ -1,4 +1,6 @@
 // Two cost algebras: coins, and coins before the number of actions.
+#![tactic(auto)]
+
 pub mod coins;
 pub mod coins_then_actions;
 pub mod counted;

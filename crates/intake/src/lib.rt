@@ -1,4 +1,6 @@
 // Bytes from a source that may send too many.
+#![tactic(auto)]
+
 ghost use Rattle.std.specs.Prelude.{◌+◌, ◌≤◌, IfOk, vec_len};
 
 use std::alloc::Global;

@@ -2,7 +2,7 @@
 use Rattle.std.proofs.Common.{◌≡◌, ℕ, true, false, List, Some, arith}
 use Rattle.planning.specs.Costs.{Algebra, CostLaws}
 use Rattle.planning.specs.Estimates.{Estimates, AtMost, Admissible, Consistent}
-use Rattle.planning.specs.Paths.{Path, stay, step, Solution}
+use Rattle.planning.specs.Paths.{Path, stay, step}
 use Rattle.planning.specs.Task.{Model}
 
 -- "not before" is transitive

@@ -1,4 +1,6 @@
 // The interfaces of the planner and the plain types that its parts share.
+#![tactic(auto)]
+
 pub mod cost;
 pub mod heuristic;
 pub mod open_list;

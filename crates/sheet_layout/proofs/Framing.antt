@@ -8,7 +8,7 @@ use Rattle.planning.specs.Checks.{Check, first_failing}
 use Rattle.sheet_layout.specs.Frame.{Action, ValidAction, KindOf, record_bytes, record_end, record_place, framed, record_checks, records_checks}
 use Rattle.sheet_layout.specs.Numbers.{Bytes, be16, be32, num16, num32}
 use Rattle.sheet_layout.proofs.Bytewise.{read16, read32, written16, written32, past}
-use Rattle.planning.proofs.Rows.{passed, pass, after}
+use Rattle.planning.proofs.Rows.{passed, pass}
 
 -- how the preconditions and effects of a kind are read back from a sheet
 pub record Decodes {C : Type 0} (k : KindOf) (layout : C → List ℕ) (Valid : C → Type 0) (read : List ℕ → ℕ → C) (bs : List ℕ) : Type 0 where
