@@ -82,7 +82,7 @@ whole c =
 pub invariant_of-result : goal.invariant_of-result
 invariant_of-result c =
     let e = ap product (cut c.args.variables c.args.counts) in
-    (ap is_some (whole c), omega (arith, e, c.count_states-states.ensures, c.if-states-gt65536.false))
+    record { valid = ap is_some (whole c); total = omega (arith, e, c.count_states-states.ensures, c.if-states-gt65536.false) }
 
 pub returns : goal.returns
 returns c = (whole (goal.at.returns c).In_ok-check_values-2, (refl, refl, refl, refl, refl))
