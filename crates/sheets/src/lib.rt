@@ -1,4 +1,6 @@
 // Sheets: reading puzzles from their bytes, and the tasks that they describe.
+#![tactic(auto)]
+
 mod bytes;
 pub mod finite_domain;
 pub mod finite_domain_task;

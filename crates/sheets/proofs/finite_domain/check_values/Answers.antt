@@ -9,14 +9,14 @@ use Rattle.sheets.proofs.finite_domain.check_values.Goals as goal
 passing : Bool → ℕ → ℕ → Bool
 passing any v n = ltb v n || (any && eqb v 255)
 
-pub returns-then-not-is-value : goal.returns-then-not-is-value
+pub returns-then-not-is_value : goal.returns-then-not-is_value
 unfolding passing
-returns-then-not-is-value c =
+returns-then-not-is_value c =
     let ns = c.args.counts.now in
     let vs = c.args.values.now in
     let i = c.loop-i.i in
     let f = passing c.args.any in
-    sym c.loop-i.invariant ∙ values-on f ns vs c.requires.same i (c.args.first + i) c.loop-i-test.true ∙ fail (f (get_or vs i 0) (get_or ns i 0)) _ _ (sym c.if-not-is-value.ensures)
+    sym c.loop-i.invariant ∙ values-on f ns vs c.requires.same i (c.args.first + i) c.loop-i-test.true ∙ fail (f (get_or vs i 0) (get_or ns i 0)) _ _ (sym c.if-not-is_value.ensures)
 
 pub loop-i-preserved : goal.loop-i-preserved
 unfolding passing

@@ -4,9 +4,9 @@ use Rattle.sheet_layout.specs.FiniteDomain.{ValidCount, product}
 use Rattle.sheet_layout.proofs.FiniteDomainHeads.{every_drop, product_some, capped}
 use Rattle.sheets.proofs.finite_domain.count_states.Goals as goal
 
-pub overflow-mul-states : goal.overflow-mul-states
-overflow-mul-states c =
-    let here = (every_drop ValidCount c.args.counts.now c.loop-count.count_index c.loop-count-test.true c.loop-count.invariant.1).0 in
+pub overflow_mul-states : goal.overflow_mul-states
+overflow_mul-states c =
+    let here = (every_drop ValidCount c.args.counts.now c.loop-count.count-index c.loop-count-test.true c.loop-count.invariant.1).0 in
     let h = mul-le-mul c.loop-count.invariant.0 here.sixteen in
     search (rules, h)
 

@@ -25,8 +25,8 @@ loop-i-init c =
 passed_here : (bs : List ℕ) (n i p : ℕ) → Walk finite_domain_kind read_assignments bs (records_at bs) n i p → i < n → Passed finite_domain_kind bs p
 passed_here bs n i p w more = (walk-passed finite_domain_kind read_assignments bs (records_at bs) n i p w more).0
 
-pub lists-at-requires : goal.lists-at-requires
-lists-at-requires c =
+pub lists_at-requires : goal.lists_at-requires
+lists_at-requires c =
     let bs = c.args.sheet.now in
     let at = passed_here bs c.args.count c.loop-i.i c.loop-i.at c.loop-i.invariant.0 c.loop-i-test.true in
     let p = c.loop-i.at + 6 in
@@ -36,13 +36,13 @@ lists-at-requires c =
       present = and_parts (present_list bs p) (present_list bs (end_of_list bs p)) at.present;
     }
 
-pub u32-at-requires : goal.u32-at-requires
-u32-at-requires c =
+pub u32_at-requires : goal.u32_at-requires
+u32_at-requires c =
     let at = passed_here c.args.sheet.now c.args.count c.loop-i.i c.loop-i.at c.loop-i.invariant.0 c.loop-i-test.true in
     omega (arith, at.frame.room, at.frame.inside)
 
-pub u16-at-requires : goal.u16-at-requires
-u16-at-requires c =
+pub u16_at-requires : goal.u16_at-requires
+u16_at-requires c =
     let at = passed_here c.args.sheet.now c.args.count c.loop-i.i c.loop-i.at c.loop-i.invariant.0 c.loop-i-test.true in
     omega (arith, at.frame.room, at.frame.inside)
 
@@ -66,7 +66,7 @@ pub returns : goal.returns
 returns c content h =
     let bs = c.args.sheet.now in
     let n = c.args.count in
-    let small : Bytes bs = λ i. omega (arith, c.ok.sheet i) in
+    let small : Bytes bs = λ i. omega (arith, c.type_inv.sheet i) in
     let first = records_at bs in
     let all = actions_from finite_domain_kind read_assignments bs n first in
     let is : all ≡ content.actions =

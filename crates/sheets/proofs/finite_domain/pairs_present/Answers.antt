@@ -5,13 +5,13 @@ use Rattle.sheet_layout.specs.Numbers.{byte_at}
 use Rattle.sheet_layout.proofs.Assigning.{present_on}
 use Rattle.sheets.proofs.finite_domain.pairs_present.Goals as goal
 
-pub returns-then-not-pair-present : goal.returns-then-not-pair-present
-returns-then-not-pair-present c =
+pub returns-then-not-pair_present : goal.returns-then-not-pair_present
+returns-then-not-pair_present c =
     let bs = c.args.sheet.now in
     let i = c.loop-i.i in
     let p = c.args.first in
     let least = c.loop-i.least in
-    sym (and_left (present_pair bs (p + 2 * i) least) _ (sym c.if-not-pair-present.ensures))
+    sym (and_left (present_pair bs (p + 2 * i) least) _ (sym c.if-not-pair_present.ensures))
     ∙ sym (present_on bs c.args.count i p least c.loop-i-test.true)
     ∙ c.loop-i.invariant
 

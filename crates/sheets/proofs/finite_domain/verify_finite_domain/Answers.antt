@@ -8,7 +8,7 @@ use Rattle.sheet_layout.specs.Numbers.{byte_at, num16}
 use Rattle.sheets.specs.FiniteDomainReading.{FiniteDomainHeadAt}
 use Rattle.sheets.proofs.FiniteDomainVerdicts.{Copied, head-same, head_done}
 use Rattle.sheets.proofs.finite_domain.verify_finite_domain.Goals as goal
-use Rattle.sheets.proofs.finite_domain.verify_finite_domain.Goals.{After-sixteen-3, In-ok-head}
+use Rattle.sheets.proofs.finite_domain.verify_finite_domain.Goals.{After-sixteen-3, In_ok-head}
 
 copied : (c : After-sixteen-3) → Copied c.args.sheet.now c.in_ok-opening.opening.size c.sixteen.result c.sixteen-2.result c.sixteen-3.result
 copied c = record {
@@ -17,24 +17,24 @@ copied c = record {
   goal = record { long = c.sixteen-3.ensures.0; each = c.sixteen-3.ensures.1 };
 }
 
-pub returns-in-err-head : goal.returns-in-err-head
-returns-in-err-head c =
+pub returns-in_err-head : goal.returns-in_err-head
+returns-in_err-head c =
     let bs = c.args.sheet.now in
-    let opened = c.in-ok-opening.ensures in
-    let same = head-same bs opened.0 c.sixteen.result c.sixteen-2.result c.sixteen-3.result _ _ opened.1.0 opened.1.1 (copied (goal.at.returns-in-err-head c).After-sixteen-3) in
-    let p = err_from_is_err_and c.from-residual-in-err-head.result c.from-residual-in-err-head.ensures.1 in
+    let opened = c.in_ok-opening.ensures in
+    let same = head-same bs opened.0 c.sixteen.result c.sixteen-2.result c.sixteen-3.result _ _ opened.1.0 opened.1.1 (copied (goal.at.returns-in_err-head c).After-sixteen-3) in
+    let p = err_from_is_err_and c.from_residual-in_err-head.result c.from_residual-in_err-head.ensures.1 in
     let records = records_checks finite_domain_kind bs (num16 bs 7) (9 + 3 * byte_at bs 6) in
-    rw (p.1, p.2) (after (opening_checks finite_domain_kind bs) (finite_domain_head_checks bs ++ records) opened.0 ∙ within (finite_domain_head_checks bs) records _ (same ∙ c.in-err-head.ensures))
+    rw (p.1, p.2) (after (opening_checks finite_domain_kind bs) (finite_domain_head_checks bs ++ records) opened.0 ∙ within (finite_domain_head_checks bs) records _ (same ∙ c.in_err-head.ensures))
 
 -- once the head has passed, only the records are left
-headed : (c : In-ok-head) → (first_failing (finite_domain_checks c.args.sheet.now) ≡ first_failing (records_checks finite_domain_kind c.args.sheet.now c.in-ok-head.head.actions (9 + 3 * c.in-ok-opening.opening.size))) × FiniteDomainHeadAt c.args.sheet.now c.in-ok-head.head
+headed : (c : In_ok-head) → (first_failing (finite_domain_checks c.args.sheet.now) ≡ first_failing (records_checks finite_domain_kind c.args.sheet.now c.in_ok-head.head.actions (9 + 3 * c.in_ok-opening.opening.size))) × FiniteDomainHeadAt c.args.sheet.now c.in_ok-head.head
 headed c =
     let bs = c.args.sheet.now in
-    let opened = c.in-ok-opening.ensures in
-    let d = c.in-ok-opening.opening.size in
-    let made = c.in-ok-head.ensures in
+    let opened = c.in_ok-opening.ensures in
+    let d = c.in_ok-opening.opening.size in
+    let made = c.in_ok-head.ensures in
     let is = made.1 in
-    let done = head_done bs opened.0 c.sixteen.result c.sixteen-2.result c.sixteen-3.result d c.in-ok-opening.opening.actions opened.1.0 opened.1.1 (copied (goal.at.In-ok-head c).After-sixteen-3) made.0 in
+    let done = head_done bs opened.0 c.sixteen.result c.sixteen-2.result c.sixteen-3.result d c.in_ok-opening.opening.actions opened.1.0 opened.1.1 (copied (goal.at.In_ok-head c).After-sixteen-3) made.0 in
     let lists = done.0 in (
       done.1 ∙ ap (λ n. first_failing (records_checks finite_domain_kind bs n (9 + 3 * d))) (sym is.1),
       record {
@@ -46,12 +46,12 @@ headed c =
       },
     )
 
-pub returns-in-err-check-records : goal.returns-in-err-check-records
-returns-in-err-check-records c =
-    let p = err_from_is_err_and c.from-residual-in-err-check-records.result c.from-residual-in-err-check-records.ensures.1 in
-    rw (p.1, p.2) ((headed (goal.at.returns-in-err-check-records c).In-ok-head).0 ∙ c.in-err-check-records.ensures)
+pub returns-in_err-check_records : goal.returns-in_err-check_records
+returns-in_err-check_records c =
+    let p = err_from_is_err_and c.from_residual-in_err-check_records.result c.from_residual-in_err-check_records.ensures.1 in
+    rw (p.1, p.2) ((headed (goal.at.returns-in_err-check_records c).In_ok-head).0 ∙ c.in_err-check_records.ensures)
 
 pub returns : goal.returns
 returns c =
-    let h = headed (goal.at.returns c).In-ok-head in
-    (h.0 ∙ c.in-ok-check-records.ensures.0, h.1)
+    let h = headed (goal.at.returns c).In_ok-head in
+    (h.0 ∙ c.in_ok-check_records.ensures.0, h.1)

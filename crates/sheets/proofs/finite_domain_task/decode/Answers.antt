@@ -5,14 +5,14 @@ use Rattle.sheets.specs.FiniteDomainTasks.{decode}
 use Rattle.sheets.proofs.FiniteDomainSteps.{every_at, decode_on, decode_next, decode-length, copied_padded}
 use Rattle.sheets.proofs.finite_domain_task.decode.Goals as goal
 
-pub nonzero-rem-values : goal.nonzero-rem-values
-nonzero-rem-values c = let v = every_at c.args.counts.now c.loop-i.i c.requires.valid c.loop-i-test.true in omega (arith, v.two)
+pub nonzero_rem-values : goal.nonzero_rem-values
+nonzero_rem-values c = let v = every_at c.args.counts.now c.loop-i.i c.requires.valid c.loop-i-test.true in omega (arith, v.two)
 
-pub overflow-cast-values : goal.overflow-cast-values
-overflow-cast-values c = let v = every_at c.args.counts.now c.loop-i.i c.requires.valid c.loop-i-test.true in search (rules, v)
+pub overflow_cast-values : goal.overflow_cast-values
+overflow_cast-values c = let v = every_at c.args.counts.now c.loop-i.i c.requires.valid c.loop-i-test.true in search (rules, v)
 
-pub nonzero-div-rest : goal.nonzero-div-rest
-nonzero-div-rest c = let v = every_at c.args.counts.now c.loop-i.i c.requires.valid c.loop-i-test.true in omega (arith, v.two)
+pub nonzero_div-rest : goal.nonzero_div-rest
+nonzero_div-rest c = let v = every_at c.args.counts.now c.loop-i.i c.requires.valid c.loop-i-test.true in omega (arith, v.two)
 
 pub loop-i-preserved : goal.loop-i-preserved
 loop-i-preserved c =

@@ -26,15 +26,15 @@ loop-i-init c = sym (encode_none c.args.counts.now (drop (length c.args.counts.n
 pub bounds-values-i : goal.bounds-values-i
 bounds-values-i c = omega (arith, long c.args.counts.now c.args.values.now c.requires.range, c.loop-i.auto.i, c.loop-i-test.true)
 
-pub overflow-mul-state : goal.overflow-mul-state
-overflow-mul-state c =
+pub overflow_mul-state : goal.overflow_mul-state
+overflow_mul-state c =
     let h = small c.args.counts.now c.args.values.now c.loop-i.i c.loop-i.state c.requires.valid c.requires.few c.requires.range c.loop-i-test.true c.loop-i.auto.i c.loop-i.invariant in
     search (rules, h)
 
-pub overflow-add-state : goal.overflow-add-state
-overflow-add-state c =
+pub overflow_add-state : goal.overflow_add-state
+overflow_add-state c =
     let h = small c.args.counts.now c.args.values.now c.loop-i.i c.loop-i.state c.requires.valid c.requires.few c.requires.range c.loop-i-test.true c.loop-i.auto.i c.loop-i.invariant in
-    let b = c.type-inv.values (c.loop-i.i - 1) in
+    let b = c.type_inv.values (c.loop-i.i - 1) in
     search (rules, h, b)
 
 pub loop-i-preserved : goal.loop-i-preserved

@@ -9,13 +9,13 @@ use Rattle.sheets.proofs.finite_domain_task.names_only.Goals as goal
 tested : (x n m : ℕ) (b : Bool) → b ≡ value_or_any x n → n ≡ m → b ≡ value_or_any x m
 tested x n m b e f = e ∙ ap (value_or_any x) f
 
-pub returns-then-not-is-value : goal.returns-then-not-is-value
-returns-then-not-is-value c =
+pub returns-then-not-is_value : goal.returns-then-not-is_value
+returns-then-not-is_value c =
     let xs = c.args.named.now in
     let ns = c.args.counts.now in
     let i = c.loop-i.i in
     let low : i < length xs = omega (arith, c.told-named, c.loop-i-test.true) in
-    sym (and_left (value_or_any (get_or xs i 0) (get_or ns i 0)) _ (sym (tested (get_or xs i 0) c.byte-at.result (get_or ns i 0) _ c.if-not-is-value.ensures c.byte-at.ensures)))
+    sym (and_left (value_or_any (get_or xs i 0) (get_or ns i 0)) _ (sym (tested (get_or xs i 0) c.byte_at.result (get_or ns i 0) _ c.if-not-is_value.ensures c.byte_at.ensures)))
     ∙ sym (names_on ns xs i low)
     ∙ c.loop-i.invariant
 

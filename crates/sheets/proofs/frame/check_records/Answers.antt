@@ -6,14 +6,14 @@ use Rattle.sheet_layout.proofs.Framing.{records_on}
 use Rattle.planning.proofs.Rows.{after, within}
 use Rattle.sheets.proofs.frame.check_records.Goals as goal
 
-pub returns-in-err-at : goal.returns-in-err-at
-returns-in-err-at g c =
+pub returns-in_err-at : goal.returns-in_err-at
+returns-in_err-at g c =
     let k = g.K.SheetKind.kind in
     let bs = c.args.sheet.now in
     let on = records_on k bs c.args.count c.loop-i.i c.loop-i.at c.loop-i-test.true in
-    let p = err_from_is_err_and c.from-residual.result c.from-residual.ensures.1 in
+    let p = err_from_is_err_and c.from_residual.result c.from_residual.ensures.1 in
     rw (p.1, p.2)
-    (sym c.loop-i.invariant.1 ∙ ap first_failing on ∙ within (record_checks k bs c.loop-i.at) (records_checks k bs (c.args.count - (c.loop-i.i + 1)) (record_end bs c.loop-i.at)) _ c.in-err-at.ensures)
+    (sym c.loop-i.invariant.1 ∙ ap first_failing on ∙ within (record_checks k bs c.loop-i.at) (records_checks k bs (c.args.count - (c.loop-i.i + 1)) (record_end bs c.loop-i.at)) _ c.in_err-at.ensures)
 
 pub loop-i-preserved : goal.loop-i-preserved
 loop-i-preserved g c =

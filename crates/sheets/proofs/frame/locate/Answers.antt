@@ -11,18 +11,18 @@ room k bs first n i p w more =
 pub loop-i-init : goal.loop-i-init
 loop-i-init g c = (refl, walk_start g.K.SheetKind.kind (λ bs p. tt) c.args.sheet.now c.args.first c.args.count c.requires.inside c.requires.passes)
 
-pub overflow-add-at : goal.overflow-add-at
-overflow-add-at g c =
+pub overflow_add-at : goal.overflow_add-at
+overflow_add-at g c =
     let h = room _ _ _ _ _ _ c.loop-i.invariant.1 (omega (arith, c.loop-i-test.true, c.requires.below)) in
     search (rules, h)
 
-pub u16-at-requires : goal.u16-at-requires
-u16-at-requires g c = (room _ _ _ _ _ _ c.loop-i.invariant.1 (omega (arith, c.loop-i-test.true, c.requires.below))).0
+pub u16_at-requires : goal.u16_at-requires
+u16_at-requires g c = (room _ _ _ _ _ _ c.loop-i.invariant.1 (omega (arith, c.loop-i-test.true, c.requires.below))).0
 
-pub overflow-add-at-in-loop-i : goal.overflow-add-at-in-loop-i
-overflow-add-at-in-loop-i g c =
+pub overflow_add-at-in-loop-i : goal.overflow_add-at-in-loop-i
+overflow_add-at-in-loop-i g c =
     let h = room _ _ _ _ _ _ c.loop-i.invariant.1 (omega (arith, c.loop-i-test.true, c.requires.below)) in
-    let e = c.u16-at.ensures in
+    let e = c.u16_at.ensures in
     search (rules, h, e)
 
 pub loop-i-preserved : goal.loop-i-preserved

@@ -5,5 +5,5 @@ use Rattle.sheets.proofs.strips.check_strips.Goals as goal
 
 pub returns : goal.returns
 returns c =
-    let small : Bytes c.args.sheet.now = λ i. omega (arith, c.ok.sheet i) in
+    let small : Bytes c.args.sheet.now = λ i. omega (arith, c.type_inv.sheet i) in
     record { checked = verdict _ _ small c.verify.ensures; unique = one_content _ small }

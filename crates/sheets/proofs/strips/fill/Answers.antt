@@ -20,14 +20,14 @@ room bs n i p w more =
     let here = (walk-passed strips_kind read_masks bs 17 n i p w more).0.frame in
     omega (arith, here.named, here.inside)
 
-pub masks-at-requires : goal.masks-at-requires
-masks-at-requires c = omega (arith, room _ _ _ _ c.loop-i.invariant.0 c.loop-i-test.true)
+pub masks_at-requires : goal.masks_at-requires
+masks_at-requires c = omega (arith, room _ _ _ _ c.loop-i.invariant.0 c.loop-i-test.true)
 
-pub u32-at-requires : goal.u32-at-requires
-u32-at-requires c = omega (arith, room _ _ _ _ c.loop-i.invariant.0 c.loop-i-test.true)
+pub u32_at-requires : goal.u32_at-requires
+u32_at-requires c = omega (arith, room _ _ _ _ c.loop-i.invariant.0 c.loop-i-test.true)
 
-pub u16-at-requires : goal.u16-at-requires
-u16-at-requires c = omega (arith, room _ _ _ _ c.loop-i.invariant.0 c.loop-i-test.true)
+pub u16_at-requires : goal.u16_at-requires
+u16_at-requires c = omega (arith, room _ _ _ _ c.loop-i.invariant.0 c.loop-i-test.true)
 
 pub loop-i-preserved : goal.loop-i-preserved
 loop-i-preserved c =
@@ -50,7 +50,7 @@ pub returns : goal.returns
 returns c content h =
     let bs = c.args.sheet.now in
     let n = c.args.count in
-    let small : Bytes bs = λ i. omega (arith, c.ok.sheet i) in
+    let small : Bytes bs = λ i. omega (arith, c.type_inv.sheet i) in
     let all = actions_from strips_kind read_masks bs n 17 in
     let is : all ≡ content.actions =
     ap (λ m. actions_from strips_kind read_masks bs m 17) c.requires.count ∙ ap (λ x. x.actions) (strips_complete bs content small h.valid h.laid).1 in

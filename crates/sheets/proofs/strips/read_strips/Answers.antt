@@ -8,11 +8,11 @@ use Rattle.sheets.proofs.LastChecks.{room_fails}
 use Rattle.sheets.proofs.Verdicts.{passes, head_of}
 use Rattle.sheets.proofs.strips.read_strips.Goals as goal
 
-pub returns-in-err-head : goal.returns-in-err-head
-returns-in-err-head c =
+pub returns-in_err-head : goal.returns-in_err-head
+returns-in_err-head c =
     let bs = c.args.sheet.now in
-    let p = err_from_is_err_and c.from-residual.result c.from-residual.ensures.1 in
-    rw (p.1, p.2) (within (strips_checks bs) _ _ c.in-err-head.ensures, refl, refl)
+    let p = err_from_is_err_and c.from_residual.result c.from_residual.ensures.1 in
+    rw (p.1, p.2) (within (strips_checks bs) _ _ c.in_err-head.ensures, refl, refl)
 
 pub returns-then-actions-needed : goal.returns-then-actions-needed
 returns-then-actions-needed c =
@@ -22,8 +22,8 @@ returns-then-actions-needed c =
 pub returns : goal.returns
 returns c =
     let bs = c.args.sheet.now in
-    let small : Bytes bs = λ i. omega (arith, c.ok.sheet i) in
-    let told = c.in-ok-head.ensures in
+    let small : Bytes bs = λ i. omega (arith, c.type_inv.sheet i) in
+    let told = c.in_ok-head.ensures in
     let sheet = passes bs small told.0 in
     let filled = c.fill.ensures (strips_read bs) sheet in
     (strips_read bs, sheet, head_of bs _ told.1, filled.0, filled.1)

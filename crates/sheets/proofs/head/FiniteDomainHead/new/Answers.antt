@@ -5,33 +5,33 @@ use Rattle.planning.proofs.Rows.{after, within}
 use Rattle.sheet_layout.specs.FiniteDomain.{product, counts_checks, values_checks, value_or_any, finite_domain_head}
 use Rattle.sheet_layout.proofs.FiniteDomainHeads.{counts-fail, product-fail, start-row, values_plain, counted_valid}
 use Rattle.sheets.proofs.head.FiniteDomainHead.new.Goals as goal
-use Rattle.sheets.proofs.head.FiniteDomainHead.new.Goals.{In-ok-check-counts, Else-states-gt65536, In-ok-check-values, In-ok-check-values-2}
+use Rattle.sheets.proofs.head.FiniteDomainHead.new.Goals.{In_ok-check_counts, Else-states-gt65536, In_ok-check_values, In_ok-check_values-2}
 
 -- a part from the front, as the code takes it
 cut : (n : ℕ) (xs : List ℕ) → take (n - 0) xs ≡ take n xs
 cut n xs = ap (λ k. take k xs) (omega arith)
 
-pub returns-in-err-check-counts : goal.returns-in-err-check-counts
-returns-in-err-check-counts c =
+pub returns-in_err-check_counts : goal.returns-in_err-check_counts
+returns-in_err-check_counts c =
     let d = c.args.variables in
-    let p = err_from_is_err_and c.from-residual.result c.from-residual.ensures.1 in
+    let p = err_from_is_err_and c.from_residual.result c.from_residual.ensures.1 in
     rw (p.1, p.2)
     (counts-fail d c.args.actions (take d c.args.counts) (take d c.args.start) (take d c.args.goal) (c.if-variables-lt1.false, c.if-variables-gt16.false) (c.if-actions-lt1.false, c.if-actions-gt512.false) _
-    (ap (λ l. first_failing (counts_checks l 9)) (sym (cut d c.args.counts)) ∙ c.in-err-check-counts.ensures))
+    (ap (λ l. first_failing (counts_checks l 9)) (sym (cut d c.args.counts)) ∙ c.in_err-check_counts.ensures))
 
-counted : (c : In-ok-check-counts) → first_failing (counts_checks (take c.args.variables c.args.counts) 9) ≡ None
-counted c = ap (λ l. first_failing (counts_checks l 9)) (sym (cut c.args.variables c.args.counts)) ∙ c.in-ok-check-counts.ensures.0
+counted : (c : In_ok-check_counts) → first_failing (counts_checks (take c.args.variables c.args.counts) 9) ≡ None
+counted c = ap (λ l. first_failing (counts_checks l 9)) (sym (cut c.args.variables c.args.counts)) ∙ c.in_ok-check_counts.ensures.0
 
-pub count-states-states-requires : goal.count-states-states-requires
-count-states-states-requires c = counted_valid _ c.in-ok-check-counts.ensures.0
+pub count_states-states-requires : goal.count_states-states-requires
+count_states-states-requires c = counted_valid _ c.in_ok-check_counts.ensures.0
 
 pub returns-then-states-gt65536 : goal.returns-then-states-gt65536
 returns-then-states-gt65536 c =
     let d = c.args.variables in
     let e = ap product (cut d c.args.counts) in
     product-fail d c.args.actions (take d c.args.counts) (take d c.args.start) (take d c.args.goal) (c.if-variables-lt1.false, c.if-variables-gt16.false) (c.if-actions-lt1.false, c.if-actions-gt512.false)
-    (counted (goal.at.returns-then-states-gt65536 c).In-ok-check-counts)
-    (omega (arith, e, c.count-states-states.ensures, c.if-states-gt65536.true))
+    (counted (goal.at.returns-then-states-gt65536 c).In_ok-check_counts)
+    (omega (arith, e, c.count_states-states.ensures, c.if-states-gt65536.true))
 
 -- the checks of values as `check_values` makes them
 plain : (d p : ℕ) (counts values : List ℕ) → first_failing (values_checks ltb (take d counts) (take d values) p) ≡ first_failing (values_checks (λ v n. ltb v n || (false && eqb v 255)) (take (d - 0) counts) (take (d - 0) values) p)
@@ -50,39 +50,39 @@ valued c =
     (ap (λ l. first_failing (counts_checks l 9)) (sym (cut d c.args.counts)) ∙ c.in_ok-check_counts.ensures.0)
     (omega (arith, e, c.count_states-states.ensures, c.if-states-gt65536.false))
 
-pub returns-in-err-check-values : goal.returns-in-err-check-values
-returns-in-err-check-values c =
+pub returns-in_err-check_values : goal.returns-in_err-check_values
+returns-in_err-check_values c =
     let d = c.args.variables in
-    let p = err_from_is_err_and c.from-residual-in-err-check-values.result c.from-residual-in-err-check-values.ensures.1 in
+    let p = err_from_is_err_and c.from_residual-in_err-check_values.result c.from_residual-in_err-check_values.ensures.1 in
     rw (p.1, p.2)
     (
-    valued (goal.at.returns-in-err-check-values c).Else-states-gt65536
-    ∙ within (values_checks ltb (take d c.args.counts) (take d c.args.start) (9 + d)) _ _ (plain d (9 + d) c.args.counts c.args.start ∙ c.in-err-check-values.ensures)
+    valued (goal.at.returns-in_err-check_values c).Else-states-gt65536
+    ∙ within (values_checks ltb (take d c.args.counts) (take d c.args.start) (9 + d)) _ _ (plain d (9 + d) c.args.counts c.args.start ∙ c.in_err-check_values.ensures)
     )
 
 -- once the start has passed, the goal is left
-aimed : (c : In-ok-check-values) → first_failing (finite_domain_head c.args.variables c.args.actions (take c.args.variables c.args.counts) (take c.args.variables c.args.start) (take c.args.variables c.args.goal)) ≡ first_failing (values_checks value_or_any (take c.args.variables c.args.counts) (take c.args.variables c.args.goal) (9 + 2 * c.args.variables))
+aimed : (c : In_ok-check_values) → first_failing (finite_domain_head c.args.variables c.args.actions (take c.args.variables c.args.counts) (take c.args.variables c.args.start) (take c.args.variables c.args.goal)) ≡ first_failing (values_checks value_or_any (take c.args.variables c.args.counts) (take c.args.variables c.args.goal) (9 + 2 * c.args.variables))
 aimed c =
     let d = c.args.variables in
-    valued (goal.at.In-ok-check-values c).Else-states-gt65536
-    ∙ after (values_checks ltb (take d c.args.counts) (take d c.args.start) (9 + d)) _ (plain d (9 + d) c.args.counts c.args.start ∙ c.in-ok-check-values.ensures.0)
+    valued (goal.at.In_ok-check_values c).Else-states-gt65536
+    ∙ after (values_checks ltb (take d c.args.counts) (take d c.args.start) (9 + d)) _ (plain d (9 + d) c.args.counts c.args.start ∙ c.in_ok-check_values.ensures.0)
 
-pub returns-in-err-check-values-2 : goal.returns-in-err-check-values-2
-returns-in-err-check-values-2 c =
+pub returns-in_err-check_values-2 : goal.returns-in_err-check_values-2
+returns-in_err-check_values-2 c =
     let d = c.args.variables in
-    let p = err_from_is_err_and c.from-residual-in-err-check-values-2.result c.from-residual-in-err-check-values-2.ensures.1 in
-    rw (p.1, p.2) (aimed (goal.at.returns-in-err-check-values-2 c).In-ok-check-values ∙ or_any d (9 + 2 * d) c.args.counts c.args.goal ∙ c.in-err-check-values-2.ensures)
+    let p = err_from_is_err_and c.from_residual-in_err-check_values-2.result c.from_residual-in_err-check_values-2.ensures.1 in
+    rw (p.1, p.2) (aimed (goal.at.returns-in_err-check_values-2 c).In_ok-check_values ∙ or_any d (9 + 2 * d) c.args.counts c.args.goal ∙ c.in_err-check_values-2.ensures)
 
 -- every check of the head has passed
-whole : (c : In-ok-check-values-2) → first_failing (finite_domain_head c.args.variables c.args.actions (take c.args.variables c.args.counts) (take c.args.variables c.args.start) (take c.args.variables c.args.goal)) ≡ None
+whole : (c : In_ok-check_values-2) → first_failing (finite_domain_head c.args.variables c.args.actions (take c.args.variables c.args.counts) (take c.args.variables c.args.start) (take c.args.variables c.args.goal)) ≡ None
 whole c =
     let d = c.args.variables in
-    aimed (goal.at.In-ok-check-values-2 c).In-ok-check-values ∙ or_any d (9 + 2 * d) c.args.counts c.args.goal ∙ c.in-ok-check-values-2.ensures.0
+    aimed (goal.at.In_ok-check_values-2 c).In_ok-check_values ∙ or_any d (9 + 2 * d) c.args.counts c.args.goal ∙ c.in_ok-check_values-2.ensures.0
 
-pub invariant-of-result : goal.invariant-of-result
-invariant-of-result c =
+pub invariant_of-result : goal.invariant_of-result
+invariant_of-result c =
     let e = ap product (cut c.args.variables c.args.counts) in
-    (ap is_some (whole c), omega (arith, e, c.count-states-states.ensures, c.if-states-gt65536.false))
+    record { valid = ap is_some (whole c); total = omega (arith, e, c.count_states-states.ensures, c.if-states-gt65536.false) }
 
 pub returns : goal.returns
-returns c = (whole (goal.at.returns c).In-ok-check-values-2, (refl, refl, refl, refl, refl))
+returns c = (whole (goal.at.returns c).In_ok-check_values-2, (refl, refl, refl, refl, refl))

@@ -11,8 +11,8 @@ returns-then-values-counts c = record {
   numbering = numbering _ (head_told c.args.self.now).counts;
 }
 
-pub check-values-requires : goal.check-values-requires
-check-values-requires c =
+pub check_values-requires : goal.check_values-requires
+check_values-requires c =
     let r = ready c.args.self.now _ c.counts-counts.ensures in
     record { few = r.0; same = c.if-values-counts.false; place = omega arith }
 

@@ -5,10 +5,10 @@ use Rattle.std.proofs.lemmas.Bool.{and_left, and_right, and_from, cond-true, con
 use Rattle.sheets.specs.StripsTasks.{performed}
 use Rattle.sheets.proofs.StripsSteps.{absent, no_action, no_price}
 use Rattle.sheets.proofs.strips_task.StripsTaskTask.transition.Goals as goal
-use Rattle.sheets.proofs.strips_task.StripsTaskTask.transition.Goals.{then-not-holds-only-via-then-not-holds-only, then-not-holds-only-via-else-not-holds-only+then-action-self, then-not-holds-only-via-else-not-holds-only+else-action-self+then-at-self, then-not-holds-only-via-else-not-holds-only+else-action-self+else-at-self+then-at-self-2}
+use Rattle.sheets.proofs.strips_task.StripsTaskTask.transition.Goals.{then-not-holds_only-via-then-not-holds_only, then-not-holds_only-via-else-not-holds_only+then-action-self, then-not-holds_only-via-else-not-holds_only+else-action-self+then-at-self, then-not-holds_only-via-else-not-holds_only+else-action-self+else-at-self+then-at-self-2}
 
-pub returns-then-not-holds-only : goal.returns-then-not-holds-only
-returns-then-not-holds-only c =
+pub returns-then-not-holds_only : goal.returns-then-not-holds_only
+returns-then-not-holds_only c =
     let t = c.args.self.now in
     let n = t.head.facts in
     let s = c.args.state in
@@ -18,12 +18,12 @@ returns-then-not-holds-only c =
     let low = ltb s (2 ^ n) in
     let few = ltb a t.head.actions in
     let outside = λ (e : (low && few) ≡ false). sym (cond-false (low && few) (performed n s x price) None e) in
-    elim c.then-not-holds-only.branch [
-      | then-not-holds-only-via-then-not-holds-only w ↦ outside (and_left low few (sym c.holds-only.ensures ∙ w.if-not-holds-only.true))
-      | then-not-holds-only-via-else-not-holds-only+then-action-self w ↦ outside (and_right low few (le-ltb a t.head.actions w.if-action-self.true))
-      | then-not-holds-only-via-else-not-holds-only+else-action-self+then-at-self w ↦
+    elim c.then-not-holds_only.branch [
+      | then-not-holds_only-via-then-not-holds_only w ↦ outside (and_left low few (sym c.holds_only.ensures ∙ w.if-not-holds_only.true))
+      | then-not-holds_only-via-else-not-holds_only+then-action-self w ↦ outside (and_right low few (le-ltb a t.head.actions w.if-action-self.true))
+      | then-not-holds_only-via-else-not-holds_only+else-action-self+then-at-self w ↦
           absent (low && few) (performed n s x price) (no_action n s x price (slice_get_past t.actions.now a w.if-at-self.true))
-      | then-not-holds-only-via-else-not-holds-only+else-action-self+else-at-self+then-at-self-2 w ↦
+      | then-not-holds_only-via-else-not-holds_only+else-action-self+else-at-self+then-at-self-2 w ↦
           absent (low && few) (performed n s x price) (no_price n s x price (slice_get_past t.prices.now a w.if-at-self-2.true))
     ]
 
