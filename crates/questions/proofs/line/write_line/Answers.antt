@@ -10,5 +10,5 @@ returns c =
     let a = decimal c.args.state in
     let b = decimal c.args.action in
     let w = answer_of c.args.answer in
-    let is = c.push.ensures.0 ∙ ap (λ l. l ++ (10 ∷ [])) (c.push-answer.ensures.0 ∙ ap (λ l. l ++ w) c.subject-text.ensures.0) ∙ regroup a b w in
+    let is = c.push.ensures.0 ∙ ap (λ l. l ++ (10 ∷ [])) (c.push_answer.ensures.0 ∙ ap (λ l. l ++ w) c.subject-text.ensures.0) ∙ regroup a b w in
     subst (λ l. Delivered l c.args.buffer.now c.deliver.new.buffer c.deliver.result) is c.deliver.ensures
