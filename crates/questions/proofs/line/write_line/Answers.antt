@@ -1,4 +1,4 @@
-use Rattle.std.proofs.Common.{◌≡◌, ℕ, List, [], ◌∷◌, ◌++◌, decimal, sym, ap, ◌∙◌, subst, append_assoc}
+use Rattle.std.proofs.Common.{◌≡◌, ℕ, List, [], ◌∷◌, ◌++◌, decimal, ap, ◌∙◌, subst, append_assoc}
 use Rattle.questions.specs.Lines.{answer_of, Delivered}
 use Rattle.questions.proofs.line.write_line.Goals as goal
 
