@@ -1,14 +1,14 @@
 -- A scan of one slot more; what a scan and a write mean for the list.
-use Rattle.std.proofs.Common.{◌≡◌, ℕ, suc, ◌+◌, ◌<◌, Bool, true, false, cond, List, length, set, Some, None, Option, sym, refl, ap, ◌∙◌, subst, add-one, arith}
-use Rattle.std.proofs.lemmas.Bool.{cases_eq, cases_Bool}
+use Rattle.std.proofs.Common.{◌≡◌, ℕ, suc, ◌+◌, ◌<◌, Bool, true, false, cond, List, length, set, Some, None, Option, sym, refl, subst, add-one, arith}
+use Rattle.std.proofs.lemmas.Bool.{cases_eq}
 use Rattle.std.proofs.lemmas.Bool.Decides.{nat_tests}
 use Rattle.planning.specs.Costs.{Algebra, CostLaws}
 use Rattle.planning.specs.Labels.{Label, earlier}
-use Rattle.planning.specs.Lists.{Waiting, Changed, Least, Taken, First, label_of}
+use Rattle.planning.specs.Lists.{Waiting, Changed, Least, Taken, label_of}
 use Rattle.planning.specs.declared.open_list.Entry.{Entry}
 use Rattle.open_lists.specs.declared.flat.Slot.{Slot}
-use Rattle.open_lists.specs.Flats.{Scanned, LeastBelow, best_below, better_entry, better, label_in, slot_label, flat_waiting, flat_next}
-use Rattle.heap_order.specs.Order.{ahead, room_of}
+use Rattle.open_lists.specs.Flats.{Scanned, better_entry, label_in, slot_label, flat_waiting, flat_next}
+use Rattle.heap_order.specs.Order.{room_of}
 use Rattle.open_lists.proofs.Fields.{field-set}
 use Rattle.planning.proofs.Labels.{not-after-self, not-after-trans, earlier-not-after}
 

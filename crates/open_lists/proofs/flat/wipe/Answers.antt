@@ -1,4 +1,4 @@
-use Rattle.std.proofs.Common.{◌<◌, false, cond, None, arith}
+use Rattle.std.proofs.Common.{None, arith}
 use Rattle.std.proofs.lemmas.Bool.{cases_lt}
 use Rattle.std.proofs.lemmas.Bool.Decides.{nat_tests}
 use Rattle.open_lists.specs.Flats.{label_in}

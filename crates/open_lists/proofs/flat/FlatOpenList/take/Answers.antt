@@ -1,4 +1,4 @@
-use Rattle.std.proofs.Common.{refl, ap, arith}
+use Rattle.std.proofs.Common.{refl, ap}
 use Rattle.open_lists.specs.Flats.{slot_label}
 use Rattle.heap_order.specs.Order.{room_of}
 use Rattle.open_lists.proofs.Flats.{shown, freed, reached}
