@@ -23,12 +23,12 @@ loop-action-preserved g c =
       | in-Some w ↦
           rw (w.list-is, w.table-is) (
             λ o. swept-offer w.in-Some.to (labelled w.plus.result c.args.tagged) (inv.0 o) (sym c.transition.ensures ∙ w.in-Some.is)
-                (λ i. labelled ((w.plus.ensures ∙ ap (g.Cost.CostAlgebra.algebra.computed c.args.cost) w.charge-charge.ensures) i) c.args.tagged)
+                (λ i. labelled ((w.plus.ensures ∙ ap (g.H.Cost.CostAlgebra.algebra.computed c.args.cost) w.charge-charge.ensures) i) c.args.tagged)
                 (w.offer.ensures.offered (inv.1 o)),
             λ o. w.offer.ensures.ordered (inv.1 o),
             w.offer.ensures.room ∙ inv.2,
           )
-      | in_default w ↦ rw (w.list-is, w.table-is) (λ o. swept-idle (inv.0 o) (sym c.transition.ensures ∙ w.in-default.is), inv.1, inv.2)
+      | in_default w ↦ rw (w.list-is, w.table-is) (λ o. swept-idle (inv.0 o) (sym c.transition.ensures ∙ w.in_default.is), inv.1, inv.2)
     ]
 
 pub returns : goal.returns

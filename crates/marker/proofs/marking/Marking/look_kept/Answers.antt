@@ -5,8 +5,8 @@ use Rattle.marker.proofs.marking.Marking.look_kept.Goals as goal
 
 pub returns : goal.returns
 returns g c =
-    let a = g.Cost.CostAlgebra.algebra in
-    let theorem = c.theorem-stands.ensures in
+    let a = g.H.Cost.CostAlgebra.algebra in
+    let theorem = c.theorem_stands.ensures in
     record {
       told = c.look.ensures;
       kept = record {
