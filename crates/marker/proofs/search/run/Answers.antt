@@ -1,4 +1,4 @@
-use Rattle.std.proofs.Common.{◌≡◌, sym, refl, ◌∙◌, subst, arith}
+use Rattle.std.proofs.Common.{sym, refl, ◌∙◌, subst, arith}
 use Rattle.planning.specs.Search.{Stopped, still}
 use Rattle.planning.proofs.Steps.{runs-more}
 use Rattle.marker.specs.Calls.{configuration_of}

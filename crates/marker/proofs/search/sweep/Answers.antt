@@ -1,8 +1,7 @@
-use Rattle.std.proofs.Common.{◌≡◌, ℕ, ◌+◌, ◌<◌, sym, refl, ap, ◌∙◌, arith}
-use Rattle.planning.specs.Labels.{Label}
-use Rattle.planning.specs.Search.{Swept, none, offer}
+use Rattle.std.proofs.Common.{◌≡◌, sym, refl, ap, ◌∙◌, arith}
+use Rattle.planning.specs.Search.{none}
 use Rattle.planning.proofs.Steps.{swept-idle, swept-offer, swept-to}
-use Rattle.marker.specs.Calls.{labelled, memory_of}
+use Rattle.marker.specs.Calls.{labelled}
 use Rattle.marker.proofs.search.sweep.Goals as goal
 use Rattle.marker.proofs.search.sweep.Goals.{in-Some, in_default}
 

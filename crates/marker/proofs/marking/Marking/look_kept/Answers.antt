@@ -1,6 +1,6 @@
 use Rattle.std.proofs.Common.{sym, subst}
-use Rattle.planning.specs.Estimates.{Estimates, Bounded}
-use Rattle.planning.specs.Task.{Model, TaskLaws}
+use Rattle.planning.specs.Estimates.{Bounded}
+use Rattle.planning.specs.Task.{TaskLaws}
 use Rattle.marker.proofs.marking.Marking.look_kept.Goals as goal
 
 pub returns : goal.returns
