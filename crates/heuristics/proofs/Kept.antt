@@ -1,5 +1,5 @@
 -- The blind heuristic is admissible and consistent, and the layers keep what the heuristics below have.
-use Rattle.std.proofs.Common.{◌≡◌, ℕ, ◌%◌, max, Bool, true, false, cond, eqb, Some, None, Option, refl, arith}
+use Rattle.std.proofs.Common.{◌≡◌, ℕ, ◌%◌, max, Bool, true, false, eqb, Some, None, Option, refl, arith}
 use Rattle.planning.specs.Costs.{Algebra, CostLaws}
 use Rattle.planning.specs.Estimates.{Estimates, AtMost}
 use Rattle.planning.proofs.Admissibility.{not_before_trans}

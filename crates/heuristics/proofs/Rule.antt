@@ -1,5 +1,5 @@
 -- The rule of a table, from its numbers and back, under coins and under every cost that counts coins.
-use Rattle.std.proofs.Common.{◌≡◌, ℕ, ◌<◌, ◌≤◌, Bool, List, get_or, Some, Decides, refl, arith}
+use Rattle.std.proofs.Common.{◌≡◌, ℕ, ◌<◌, Bool, List, get_or, Some, Decides, arith}
 use Rattle.std.proofs.lemmas.Bool.Decides.{nat_tests}
 use Rattle.planning.proofs.Admissibility.{consistent_admissible}
 use Rattle.planning.specs.Costs.{Algebra, CostLaws}
@@ -9,7 +9,7 @@ use Rattle.planning.specs.declared.task.Transition.{Transition}
 use Rattle.costs.specs.Laws.{coins_counted_lem}
 use Rattle.costs.specs.Coins.{coins_algebra}
 use Rattle.costs.specs.Counted.{CountedLaws, coins_counted}
-use Rattle.heuristics.specs.Checks.{GoalKept, ActionKept, FallsAtMost, StateKept, Kept, Trusted}
+use Rattle.heuristics.specs.Checks.{ActionKept, FallsAtMost, StateKept, Kept, Trusted}
 use Rattle.heuristics.specs.Tables.{meant, tabled}
 
 meant_below : {K : Type 0} (count : ℕ → K) (n : ℕ) → n < 4294967295 → meant count n ≡ Some (count n)

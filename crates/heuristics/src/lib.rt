@@ -1,4 +1,6 @@
 // Heuristics, and layers over heuristics.
+#![tactic(auto)]
+
 pub mod blind;
 pub mod check;
 pub mod maximum;

@@ -1,4 +1,6 @@
 // The marker: whether a cheapest solution from a state begins with an action, by a search in turns.
+#![tactic(auto)]
+
 pub mod calls;
 mod checks;
 pub mod mark;

@@ -18,14 +18,14 @@ loop-state-preserved g c =
       actions = actions_kept _ c.states-state-end.ensures.lawful _ _ (λ b h. c.loop-action.invariant.1 b (omega arith));
     })
 
-pub returns-then-not-keeps-entry : goal.returns-then-not-keeps-entry
-returns-then-not-keeps-entry g c =
-    at_entry c.loop-state.invariant (not_from_Decides _ c.keeps-entry.ensures c.if-not-keeps-entry.true)
+pub returns-then-not-keeps_entry : goal.returns-then-not-keeps_entry
+returns-then-not-keeps_entry g c =
+    at_entry c.loop-state.invariant (not_from_Decides _ c.keeps_entry.ensures c.if-not-keeps_entry.true)
 
-pub returns-then-not-keeps-action : goal.returns-then-not-keeps-action
-returns-then-not-keeps-action g c =
+pub returns-then-not-keeps_action : goal.returns-then-not-keeps_action
+returns-then-not-keeps_action g c =
     at_action c.loop-state.invariant c.loop-action.invariant.0 c.loop-action.invariant.1
-    (not_from_Decides _ c.keeps-action.ensures c.if-not-keeps-action.true)
+    (not_from_Decides _ c.keeps_action.ensures c.if-not-keeps_action.true)
 
 pub returns-after-loop-state : goal.returns-after-loop-state
 returns-after-loop-state g c =

@@ -7,7 +7,7 @@ abbrev pub invariant-loop-told : goal.invariant-loop-told
 invariant-loop-told g l =
     let list = g.L.OpenList in
     Tells l.marking l.told
-    × Going (g.T.Task.model l.task) g.Cost.CostAlgebra.algebra (g.H.Heuristic.estimated l.heuristic) l.state l.action l.limit (numbers_of l.marking) (memory_of l.table (list.waiting l.list))
+    × Going (g.T.Task.model l.task) g.H.Cost.CostAlgebra.algebra (g.H.Heuristic.estimated l.heuristic) l.state l.action l.limit (numbers_of l.marking) (memory_of l.table (list.waiting l.list))
     × list.ordered l.list
     × (list.room l.list ≡ list.room l.initial.list)
 

@@ -1,26 +1,26 @@
-use Rattle.std.proofs.Common.{◌≡◌, ◌<◌, ◌≤◌, Bool, true, false, sym, refl, ◌∙◌, subst, arith}
+use Rattle.std.proofs.Common.{◌≡◌, Bool, true, false, sym, refl, ◌∙◌, subst, arith}
 use Rattle.std.proofs.lemmas.Option.{slice_get_read}
 use Rattle.planning.specs.Lists.{Put}
 use Rattle.planning.proofs.Steps.{offer-passed, offer-dead-end, offer-put}
 use Rattle.marker.specs.Calls.{labelled}
 use Rattle.marker.proofs.search.offer.Goals as goal
 
-pub returns-then-not-is-taken : goal.returns-then-not-is-taken
-returns-then-not-is-taken g c =
+pub returns-then-not-is_taken : goal.returns-then-not-is_taken
+returns-then-not-is_taken g c =
     let xs = c.args.table.now in
     let at = slice_get_read xs _ c.args.state c.index-table-at.result refl c.requires.table c.index-table-at.is in
     record {
-      offered = λ o. offer-passed _ _ _ _ (labelled c.args.cost c.args.tagged) xs _ _ at (sym c.is-taken.ensures ∙ c.if-not-is-taken.true);
+      offered = λ o. offer-passed _ _ _ _ (labelled c.args.cost c.args.tagged) xs _ _ at (sym c.is_taken.ensures ∙ c.if-not-is_taken.true);
       ordered = λ o. o;
       room = refl;
     }
 
-pub returns-in-default : goal.returns-in-default
-returns-in-default g c =
+pub returns-in_default : goal.returns-in_default
+returns-in_default g c =
     let xs = c.args.table.now in
     let at = slice_get_read xs _ c.args.state c.index-table-at.result refl c.requires.table c.index-table-at.is in
     record {
-      offered = λ o. offer-dead-end _ _ _ _ (labelled c.args.cost c.args.tagged) xs _ _ at (sym c.is-taken.ensures ∙ c.if-not-is-taken.false) (sym c.estimate.ensures ∙ c.in-default.is);
+      offered = λ o. offer-dead-end _ _ _ _ (labelled c.args.cost c.args.tagged) xs _ _ at (sym c.is_taken.ensures ∙ c.if-not-is_taken.false) (sym c.estimate.ensures ∙ c.in_default.is);
       ordered = λ o. o;
       room = refl;
     }

@@ -1,4 +1,4 @@
-use Rattle.std.proofs.Common.{◌≡◌, sym, refl, ◌∙◌, subst, arith}
+use Rattle.std.proofs.Common.{sym, refl, ◌∙◌, subst, arith}
 use Rattle.planning.specs.Search.{Stopped, still}
 use Rattle.planning.proofs.Steps.{runs-more}
 use Rattle.marker.specs.Calls.{configuration_of}
@@ -16,7 +16,7 @@ turn-requires g c = record {
 
 pub returns-in-Err : goal.returns-in-Err
 returns-in-Err g c =
-    let a = g.Cost.CostAlgebra.algebra in
+    let a = g.H.Cost.CostAlgebra.algebra in
     let list = g.L.OpenList in
     let inv = c.loop-made.invariant in
     let told = c.in-Err.ensures in
@@ -30,12 +30,12 @@ returns-in-Err g c =
       room = told.room ∙ inv.3;
     }
 
-pub returns-in-default : goal.returns-in-default
-returns-in-default g c =
+pub returns-in_default : goal.returns-in_default
+returns-in_default g c =
     let inv = c.loop-made.invariant in
     let told = c.in-Ok.ensures in
     record {
-      ran = λ o. record { made = _; runs = runs-more (inv.1 o) inv.0 (told.turned (inv.2 o)); within = omega (arith, c.loop-made-test.true); all = λ e. absurd (c.in-default.not-Open e) };
+      ran = λ o. record { made = _; runs = runs-more (inv.1 o) inv.0 (told.turned (inv.2 o)); within = omega (arith, c.loop-made-test.true); all = λ e. absurd (c.in_default.not-Open e) };
       ordered = λ o. told.ordered (inv.2 o);
       room = told.room ∙ inv.3;
     }

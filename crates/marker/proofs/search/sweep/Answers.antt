@@ -1,8 +1,7 @@
-use Rattle.std.proofs.Common.{◌≡◌, ℕ, ◌+◌, ◌<◌, sym, refl, ap, ◌∙◌, arith}
-use Rattle.planning.specs.Labels.{Label}
-use Rattle.planning.specs.Search.{Swept, none, offer}
+use Rattle.std.proofs.Common.{◌≡◌, sym, refl, ap, ◌∙◌, arith}
+use Rattle.planning.specs.Search.{none}
 use Rattle.planning.proofs.Steps.{swept-idle, swept-offer, swept-to}
-use Rattle.marker.specs.Calls.{labelled, memory_of}
+use Rattle.marker.specs.Calls.{labelled}
 use Rattle.marker.proofs.search.sweep.Goals as goal
 use Rattle.marker.proofs.search.sweep.Goals.{in-Some, in_default}
 
@@ -23,12 +22,12 @@ loop-action-preserved g c =
       | in-Some w ↦
           rw (w.list-is, w.table-is) (
             λ o. swept-offer w.in-Some.to (labelled w.plus.result c.args.tagged) (inv.0 o) (sym c.transition.ensures ∙ w.in-Some.is)
-                (λ i. labelled ((w.plus.ensures ∙ ap (g.Cost.CostAlgebra.algebra.computed c.args.cost) w.charge-charge.ensures) i) c.args.tagged)
+                (λ i. labelled ((w.plus.ensures ∙ ap (g.H.Cost.CostAlgebra.algebra.computed c.args.cost) w.charge-charge.ensures) i) c.args.tagged)
                 (w.offer.ensures.offered (inv.1 o)),
             λ o. w.offer.ensures.ordered (inv.1 o),
             w.offer.ensures.room ∙ inv.2,
           )
-      | in_default w ↦ rw (w.list-is, w.table-is) (λ o. swept-idle (inv.0 o) (sym c.transition.ensures ∙ w.in-default.is), inv.1, inv.2)
+      | in_default w ↦ rw (w.list-is, w.table-is) (λ o. swept-idle (inv.0 o) (sym c.transition.ensures ∙ w.in_default.is), inv.1, inv.2)
     ]
 
 pub returns : goal.returns

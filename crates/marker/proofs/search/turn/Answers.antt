@@ -1,4 +1,4 @@
-use Rattle.std.proofs.Common.{◌≡◌, ℕ, ◌+◌, true, false, sym, refl, ap, ◌∙◌, subst, arith}
+use Rattle.std.proofs.Common.{◌≡◌, true, false, sym, refl, ◌∙◌, subst, arith}
 use Rattle.std.proofs.lemmas.Option.{slice_get_read}
 use Rattle.planning.specs.Search.{Numbers, outside, unknown, Counted, Onward}
 use Rattle.planning.specs.declared.status.Status.{Status}
@@ -29,12 +29,12 @@ returns-then-not-found g c =
 counts : (m : Marking) (s : Status) (m' : Marking) → Counts m s m' → Counted (numbers_of m) (numbers_of m')
 counts m s m' k = record { turns = k.turns; limit = k.limit; state = k.state; action = k.action }
 
-pub returns-then-is-goal : goal.returns-then-is-goal
-returns-then-is-goal g c =
+pub returns-then-is_goal : goal.returns-then-is_goal
+returns-then-is_goal g c =
     let list = g.L.OpenList in
     let xs = c.args.table.now in
     let at = slice_get_read xs _ c.in-Some.entry.state c.index-table-state.result refl (omega (arith, c.states-states.ensures.value, c.if-state-states.false, c.requires.table)) c.index-table-state.is in
-    let goal = sym c.is-goal.ensures ∙ c.if-is-goal.true in
+    let goal = sym c.is_goal.ensures ∙ c.if-is_goal.true in
     record {
       turned = λ o. record {
         state = c.in-Some.entry.state;

@@ -6,5 +6,5 @@ pub returns : goal.returns
 returns g c =
     record {
       held = (refl, refl);
-      admissible = strided-admissible g.A.Cost.CostAlgebra.algebra g.met.A.Cost.CostAlgebra.laws _ _;
+      admissible = strided-admissible g.H.Cost.CostAlgebra.algebra g.met.H.Cost.CostAlgebra.laws _ _;
     }

@@ -1,12 +1,12 @@
 use Rattle.std.proofs.Common.{sym, subst}
-use Rattle.planning.specs.Estimates.{Estimates, Bounded}
-use Rattle.planning.specs.Task.{Model, TaskLaws}
+use Rattle.planning.specs.Estimates.{Bounded}
+use Rattle.planning.specs.Task.{TaskLaws}
 use Rattle.marker.proofs.marking.Marking.look_kept.Goals as goal
 
 pub returns : goal.returns
 returns g c =
-    let a = g.Cost.CostAlgebra.algebra in
-    let theorem = c.theorem-stands.ensures in
+    let a = g.H.Cost.CostAlgebra.algebra in
+    let theorem = c.theorem_stands.ensures in
     record {
       told = c.look.ensures;
       kept = record {
