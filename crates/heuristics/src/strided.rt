@@ -15,7 +15,7 @@ pub struct Strided<H> {
 impl<H: Heuristic> Strided<H> {
     pub fn new(below: H, stride: u32) -> Self
         ensures held { (result.below ≡ below) × (result.stride ≡ stride) }
-        ensures admissible { StridedAdmissible H.Cost.algebra result.stride (H.Heuristic.estimated result.below) }
+        ensures admissible { StridedAdmissible H.Cost.CostAlgebra.algebra result.stride (H.Heuristic.estimated result.below) }
     {
         Strided { below, stride }
     }
