@@ -8,7 +8,7 @@ use Rattle.answers.proofs.answer.Goals as goal
 pub returns : goal.returns
 returns g c =
     let t = g.T.Task.model c.args.task.now in
-    let told = c.in-ok-status.ensures.answers in
+    let told = c.in_ok-status.ensures.answers in
     let marked = told.1.0 in
     let few = c.states.ensures.lawful.few_states in
     let closed = marked.verdict (c.new-blind.ensures.consistent t) (omega (arith, few)) in

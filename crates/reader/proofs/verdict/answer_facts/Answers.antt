@@ -7,16 +7,16 @@ use Rattle.reader.specs.Verdicts.{Answered, damaged, whole}
 use Rattle.reader.proofs.Rooms.{room_passes, facts_few}
 use Rattle.reader.proofs.verdict.answer_facts.Goals as goal
 
-pub returns-in-err-head : goal.returns-in-err-head
-returns-in-err-head c =
+pub returns-in_err-head : goal.returns-in_err-head
+returns-in_err-head c =
     let bs = c.args.sheet.now in
-    let small : Bytes bs = λ i. omega (arith, c.type-inv.sheet i) in
-    let p = err_from_is_err_and c.from-residual.result c.from-residual.ensures.1 in
-    let fails = room_passes (strips_checks bs) (num16 bs 7) _ (facts_few bs) c.in-err-head.ensures.0 in
+    let small : Bytes bs = λ i. omega (arith, c.type_inv.sheet i) in
+    let p = err_from_is_err_and c.from_residual.result c.from_residual.ensures.1 in
+    let fails = room_passes (strips_checks bs) (num16 bs 7) _ (facts_few bs) c.in_err-head.ensures.0 in
     rw (p.1, p.2) (damaged _ fails (no_content bs _ small fails) refl)
 
 pub returns : goal.returns
 returns c =
-    let told = c.in-ok-head.ensures in
+    let told = c.in_ok-head.ensures in
     let same = c.new.ensures.described told.0 told.2 (_, told.3) (_, told.4) in
-    whole told.0 told.1 (subst (λ t. Answered t c.args.state c.args.action c.answer-within.result) same c.answer-within.ensures)
+    whole told.0 told.1 (subst (λ t. Answered t c.args.state c.args.action c.answer_within.result) same c.answer_within.ensures)

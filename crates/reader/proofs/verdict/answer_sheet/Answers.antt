@@ -5,7 +5,7 @@ use Rattle.reader.proofs.verdict.answer_sheet.Goals as goal
 use Rattle.reader.proofs.verdict.answer_sheet.Goals.{else-sheet-gt5-via-then-sheet-gt5+else-sheet-eq2, else-sheet-gt5-via-else-sheet-gt5}
 
 pub returns-then-sheet-eq2 : goal.returns-then-sheet-eq2
-returns-then-sheet-eq2 c = variables c.if-sheet-eq2.true c.answer-variables.ensures
+returns-then-sheet-eq2 c = variables c.if-sheet-eq2.true c.answer_variables.ensures
 
 pub returns-else-sheet-gt5 : goal.returns-else-sheet-gt5
 returns-else-sheet-gt5 c =
@@ -14,4 +14,4 @@ returns-else-sheet-gt5 c =
       | else-sheet-gt5-via-then-sheet-gt5+else-sheet-eq2 w ↦ w.if-sheet-eq2.false
       | else-sheet-gt5-via-else-sheet-gt5 w ↦ λ e. omega (arith, e, get_or_past c.args.sheet.now 5 0 w.if-sheet-gt5.false)
     ])
-    c.answer-facts.ensures
+    c.answer_facts.ensures
