@@ -6,7 +6,7 @@
  * bad pointer: each pointer must point to as many bytes as the length behind it says, and no two of one call's may
  * overlap. A null pointer is a bad pointer, with length 0 too.
  *
- * Link liblekruvas' archive target/staticlib/libreader.a and the kit's librattle_c.a (see c/run). */
+ * Link liblekruvas' archive target/staticlib/libreader.a and the kit's liblibc_c.a (see c/run). */
 #ifndef LEKRUVAS_H
 #define LEKRUVAS_H
 

@@ -1,4 +1,6 @@
 // The answer to one question about a task: coins as costs, no heuristic, a heap as open list.
+#![tactic(auto)]
+
 ghost use Rattle.std.specs.Prelude.{◌≡◌, length, OnErr};
 ghost use Rattle.planning.specs.Checks.{first_failing};
 ghost use Rattle.planning.specs.Outcomes.{Answers};

@@ -1,5 +1,7 @@
 // Rows of calls on one marking, for programs in other languages that compare or time the library. Nothing is promised of
 // it but that it is safe and returns.
+#![tactic(auto)]
+
 mod calls;
 mod kinds;
 mod parts;

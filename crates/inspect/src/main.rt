@@ -1,4 +1,6 @@
 // Prints what a sheet on standard input holds, or where it is damaged.
+#![tactic(auto)]
+
 use intake::read_at_most;
 use planning::refusal::Refusal;
 use planning::task::Task;

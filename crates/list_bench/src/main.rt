@@ -1,5 +1,7 @@
 // A fixed mix of calls on both open lists, for tools that count instructions. With arguments LIST STATES ROUNDS it
 // runs that one alone.
+#![tactic(auto)]
+
 use anyhow::anyhow;
 use costs::coins::Coins;
 use open_lists::flat::{Flat, Slot};

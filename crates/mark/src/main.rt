@@ -1,4 +1,6 @@
 // Marks the questions about a sheet on standard input, a line for each.
+#![tactic(auto)]
+
 use answers::answer;
 use anyhow::anyhow;
 use costs::coins::Coins;

@@ -1,5 +1,5 @@
 -- The answer to a question about a sheet, from its bytes to the verdict.
-use Rattle.std.specs.Prelude.{◌≡◌, ℕ, List, Some, Ok, Err, Result, ◌≢◌}
+use Rattle.std.specs.Prelude.{◌≡◌, ℕ, List, Some, Err, Result, ◌≢◌}
 use Rattle.planning.specs.Checks.{Check, first_failing}
 use Rattle.planning.specs.Outcomes.{Answers}
 use Rattle.planning.specs.Task.{Model}
@@ -7,9 +7,9 @@ use Rattle.planning.specs.declared.refusal.Refusal.{Refusal}
 use Rattle.planning.specs.declared.status.Status.{Status}
 use Rattle.marker.specs.Refusals.{start_checks}
 use Rattle.answers.specs.Verdicts.{Verdict}
-use Rattle.sheet_layout.specs.FiniteDomain.{FiniteDomainContent, finite_domain_checks}
+use Rattle.sheet_layout.specs.FiniteDomain.{finite_domain_checks}
 use Rattle.sheet_layout.specs.Numbers.{byte_at}
-use Rattle.sheet_layout.specs.Strips.{StripsContent, strips_checks}
+use Rattle.sheet_layout.specs.Strips.{strips_checks}
 use Rattle.sheets.specs.FiniteDomainReading.{FiniteDomainSheet}
 use Rattle.sheets.specs.FiniteDomainTasks.{finite_domain_task_of}
 use Rattle.sheets.specs.Reading.{Sheet}

@@ -1,4 +1,6 @@
 // Marks every action of a small task in every state, with both open lists and under both costs.
+#![tactic(auto)]
+
 use costs::coins::Coins;
 use costs::coins_then_actions::CoinsThenActions;
 use heuristics::blind::Blind;

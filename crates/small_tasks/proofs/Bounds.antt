@@ -5,7 +5,7 @@ use Rattle.std.proofs.lemmas.Bool.{and_parts, ltb-true}
 use Rattle.planning.specs.declared.task.Transition.{Transition}
 use Rattle.planning.specs.Costs.{Algebra, CostLaws}
 use Rattle.planning.specs.Estimates.{Estimates, AtMost, Admissible, Consistent}
-use Rattle.planning.specs.Paths.{Path, stay, step, Solution, Cheapest, Optimal}
+use Rattle.planning.specs.Paths.{Path, step, Solution, Cheapest}
 use Rattle.planning.specs.Task.{Model}
 use Rattle.planning.proofs.Admissibility.{consistent_admissible}
 use Rattle.small_tasks.specs.Tasks.{Priced, led, task}

@@ -1,4 +1,6 @@
 // Three small tasks, and which of their actions are optimal.
+#![tactic(auto)]
+
 ghost use Rattle.small_tasks.specs.Verdicts.{Verdicts};
 
 // Does nothing: its promise is the verdicts.

@@ -1,7 +1,5 @@
-use Rattle.std.proofs.Common.{◌≡◌, length, sym, ap, ◌∙◌, subst, arith}
-use Rattle.std.proofs.lemmas.Result.{err_from_is_err_and}
+use Rattle.std.proofs.Common.{length, sym, ap, ◌∙◌, arith}
 use Rattle.planning.specs.Checks.{first_failing}
-use Rattle.heap_order.specs.Order.{room_of}
 use Rattle.marker.specs.Refusals.{start_checks}
 use Rattle.answers.proofs.answer.Goals as goal
 

@@ -1,8 +1,8 @@
-use Rattle.std.proofs.Common.{◌≡◌, ℕ, true, List, [], ◌∷◌, Some, None, Option, refl, arith}
+use Rattle.std.proofs.Common.{◌≡◌, ℕ, [], ◌∷◌, Some, None, Option, refl, arith}
 use Rattle.std.specs.List.{slice_get}
 use Rattle.planning.specs.declared.task.Transition.{Transition}
 use Rattle.planning.specs.Estimates.{Estimates, Admissible}
-use Rattle.planning.specs.Paths.{Path, stay, step, Solution}
+use Rattle.planning.specs.Paths.{stay, step, Solution}
 use Rattle.costs.specs.declared.coins.Coins.{Coins}
 use Rattle.costs.specs.declared.coins_then_actions.CoinsThenActions.{CoinsThenActions}
 use Rattle.costs.specs.Coins.{coins_algebra}

@@ -1,5 +1,4 @@
 use Rattle.std.proofs.Common.{ap, ◌∙◌}
-use Rattle.planning.specs.Refusals.{place_of}
 use Rattle.reader.specs.Codes.{number_of_place}
 use Rattle.reader.proofs.exports.lekruvas_mark.Goals as goal
 
