@@ -1,3 +1,5 @@
+#![tactic(auto)]
+
 // Sheets of dials byte by byte, and a task of dials beside the same task of facts.
 #[cfg(test)]
 mod tests {

@@ -1,3 +1,5 @@
+#![tactic(auto)]
+
 // Markings call by call: refusals at their edges, budgets, lists that were altered, and a state that is taken twice.
 #[cfg(test)]
 mod tests {

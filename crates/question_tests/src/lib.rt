@@ -1,3 +1,5 @@
+#![tactic(auto)]
+
 // Questions and their lines, as the marking program puts them together.
 #[cfg(test)]
 mod tests {

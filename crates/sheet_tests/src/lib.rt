@@ -1,3 +1,5 @@
+#![tactic(auto)]
+
 // Sheets byte by byte: which are accepted, and where the others are refused.
 #[cfg(test)]
 mod tests {

@@ -1,3 +1,5 @@
+#![tactic(auto)]
+
 // What the heuristics answer on a small task, and which tables the check accepts.
 //
 // The task has three facts. Each action costs one coin: two add the first facts, and the third adds the
