@@ -1,9 +1,9 @@
 -- Sets of facts as numbers: what `&`, `|` and `!` do to them.
-use Rattle.std.proofs.Common.{◌≡◌, ℕ, zero, suc, ◌+◌, ◌-◌, ◌*◌, ◌/◌, ◌%◌, ◌^◌, ◌<◌, ◌≤◌, min, max, Bool, true, false, cond, not, ◌&&◌, ◌||◌, eqb, ltb, ◌⊎◌, sym, refl, ap, ◌∙◌, inl, inr, ⊎_elim, mod-eq_of_lt, arith, pow_mono}
+use Rattle.std.proofs.Common.{◌≡◌, ℕ, zero, suc, ◌+◌, ◌-◌, ◌*◌, ◌/◌, ◌%◌, ◌^◌, ◌<◌, ◌≤◌, min, max, Bool, true, false, cond, not, ◌&&◌, ◌||◌, eqb, ◌⊎◌, sym, refl, ap, ◌∙◌, inl, inr, ⊎_elim, mod-eq_of_lt, arith, pow_mono}
 use native.Mathlib.Nat.{pow-succ', div-div-eq-div-mul}
-use lib.Bits.{bit_and, bit_or, and_step, or_step, and_shr, or_shr, and_le_l, and_le_r, or_lt, or_add_and}
+use lib.Bits.{bit_and, bit_or, and_step, or_step, and_shr, or_shr, and_le_l, and_le_r, or_lt}
 use Rattle.std.proofs.lemmas.Nat.{mod-pow-add}
-use Rattle.std.proofs.lemmas.Bool.{and_parts, and_from, eqb-true, eq-eqb, ltb-true, lt-ltb, cases_lt, cond_both}
+use Rattle.std.proofs.lemmas.Bool.{and_parts, and_from, eqb-true, eq-eqb, cases_lt, cond_both}
 use Rattle.std.proofs.lemmas.Bool.Decides.{nat_tests}
 use Rattle.sheets.specs.StripsTasks.{Facts, facts_of, set_of, subset, applied}
 
@@ -137,20 +137,6 @@ contains n p s h =
   where
     le-lt : {a b c : ℕ} → a ≤ b → b < c → a < c
     le-lt x y = omega arith
-
--- a set holds only facts below n exactly when both of its parts do
-pub or_below : (n a d : ℕ) → ltb (bit_or a d) (2 ^ n) ≡ (ltb a (2 ^ n) && ltb d (2 ^ n))
-or_below n a d =
-    same_test (ltb (bit_or a d) (2 ^ n)) (ltb a (2 ^ n) && ltb d (2 ^ n))
-    (λ e.
-    let less = ltb-true (bit_or a d) (2 ^ n) e in
-    let sum = or_add_and a d in
-    let left = and_le_l a d in
-    let right = and_le_r a d in
-    and_from _ _ (lt-ltb a (2 ^ n) (omega arith)) (lt-ltb d (2 ^ n) (omega arith)))
-    (λ e.
-    let both = and_parts (ltb a (2 ^ n)) (ltb d (2 ^ n)) e in
-    lt-ltb (bit_or a d) (2 ^ n) (or_lt n a d (ltb-true a (2 ^ n) both.0) (ltb-true d (2 ^ n) both.1)))
 
 -- what is left of a state without the deleted facts, with the added ones
 pub applied-set : (n s d a : ℕ) → n ≤ 32 → s < 2 ^ n → d < 2 ^ n → a < 2 ^ n → bit_or (bit_and s (2 ^ 32 - 1 - d)) a ≡ set_of n (applied (facts_of s) (facts_of d) (facts_of a))

@@ -36,10 +36,13 @@ fn perform(facts: u8, state: u32, action: &StripsAction, price: u32) -> Option<T
         adds,
         deletes,
     } = *action;
-    if state & preconditions != preconditions {
+    if !holds_only(preconditions, facts)
+        || !holds_only(adds, facts)
+        || !holds_only(deletes, facts)
+    {
         return None;
     }
-    if !holds_only(adds | deletes, facts) {
+    if state & preconditions != preconditions {
         return None;
     }
     Some(Transition {
