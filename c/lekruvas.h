@@ -2,7 +2,7 @@
  *
  * The functions are proved in Rattle (crates/reader): for every argument they return, and they read and write nothing
  * but the memory that they are handed. They keep nothing between calls and allocate nothing, so that several threads
- * may call them at once; lekruvas_mark takes about 80 kilobytes of the caller's stack. What the proofs cannot see is a
+ * may call them at once; lekruvas_mark takes about 60 kilobytes of the caller's stack. What the proofs cannot see is a
  * bad pointer: each pointer must point to as many bytes as the length behind it says, and no two of one call's may
  * overlap. A null pointer is a bad pointer, with length 0 too.
  *
