@@ -15,7 +15,8 @@ import sys
 
 WORD = r"[A-Za-z0-9_'’\u2080-\u209c\u2032\u2115\u2124-]+"
 TOKEN = re.compile(WORD)
-DECLARED = re.compile(r"^(?:(?:abbrev|unfoldable|pub|axiom)\s+)*(" + WORD + r")\s*:\s")
+# a declaration, also one inside a module of parameters or a `where`
+DECLARED = re.compile(r"^ *(?:(?:abbrev|unfoldable|pub|axiom)\s+)*(" + WORD + r")\s*:\s")
 TYPED = re.compile(r"^(?:pub )?(record|data) (" + WORD + ")")
 MEMBER = re.compile(r"^  (?:pub )?(" + WORD + r")\s*:")
 LIBRARY = set("length take drop set map replicate append sum cond min max slice_get slice_index slice_set".split())

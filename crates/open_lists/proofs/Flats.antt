@@ -9,8 +9,8 @@ use Rattle.planning.specs.declared.open_list.Entry.{Entry}
 use Rattle.open_lists.specs.declared.flat.Slot.{Slot}
 use Rattle.open_lists.specs.Flats.{Scanned, better_entry, label_in, slot_label, flat_waiting, flat_next}
 use Rattle.heap_order.specs.Order.{room_of}
-use Rattle.open_lists.proofs.Fields.{field-set}
-use Rattle.planning.proofs.Labels.{not-after-self, not-after-trans, earlier-not-after}
+use Rattle.open_lists.proofs.Fields.{field_set}
+use Rattle.planning.proofs.Labels.{not_after_self, not_after_trans, earlier_not_after}
 
 module _ {K : Type 0} (a : Algebra K) (w : Waiting K) (n : ℕ) where
   passed : (best : Option (Entry K)) → w n ≡ None → Scanned a w n best → Scanned a w (suc n) best
@@ -29,14 +29,14 @@ module _ {K : Type 0} (a : Algebra K) (w : Waiting K) (n : ℕ) where
     at_n = rw here stands
 
     newer : (q : ℕ) (y : Label K) → (q < n → earlier a y (label_of e) ≡ false) → q < suc n → w q ≡ Some y → earlier a y (label_of e) ≡ false
-    newer q y before h at = grind (arith, cases_eq q n, not-after-self a laws y)
+    newer q y before h at = grind (arith, cases_eq q n, not_after_self a laws y)
 
     chosen : (b : Entry K) (t : Bool) → earlier a (label_of e) (label_of b) ≡ t → Scanned a w n (Some b) → Scanned a w (suc n) (Some (cond t e b))
     chosen b true first s = (
       record {
         below = omega arith;
         stands = at_n;
-        least = λ q y h at. newer q y (λ l. not-after-trans a laws (label_of e) (label_of b) y (earlier-not-after a laws (label_of e) (label_of b) first) (s.0.least q y l at)) h at;
+        least = λ q y h at. newer q y (λ l. not_after_trans a laws (label_of e) (label_of b) y (earlier_not_after a laws (label_of e) (label_of b) first) (s.0.least q y l at)) h at;
       },
       let a1 = s.1 in let a2 = s.0.stands in cc,
     )
@@ -66,8 +66,8 @@ module _ {K : Type 0} (a : Algebra K) (w : Waiting K) where
 module _ {K : Type 0} where
   pub written : (xs : List (Slot K)) (p : ℕ) (s : Slot K) → p < length xs → Changed (slot_label xs) (slot_label (set xs p s)) p (label_in s)
   written xs p s h = record {
-    here = let e = field-set label_in None xs p s h p in grind (arith, nat_tests);
-    others = λ q ne. let e = field-set label_in None xs p s h q in grind (arith, nat_tests);
+    here = let e = field_set label_in None xs p s h p in grind (arith, nat_tests);
+    others = λ q ne. let e = field_set label_in None xs p s h q in grind (arith, nat_tests);
   }
 
   module _ (xs ys : List (Slot K)) (long : length ys ≡ length xs) where

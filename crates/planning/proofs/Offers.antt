@@ -9,7 +9,7 @@ use Rattle.planning.specs.Estimates.{Estimates}
 use Rattle.planning.specs.Labels.{Label, earlier}
 use Rattle.planning.specs.Search.{Memory, Same, label, takes, Recorded, Offered, offer, Swept, none, more}
 use Rattle.planning.specs.Task.{Model}
-use Rattle.planning.proofs.Labels.{NotAfter, not-after-self, not-after-trans, earlier-not-after}
+use Rattle.planning.proofs.Labels.{NotAfter, not_after_self, not_after_trans, earlier_not_after}
 
 pub none_some : {X : Type 0} {x : Option X} {y : X} → x ≡ None → x ≡ Some y → ⊥
 none_some e f = grind arith
@@ -64,31 +64,31 @@ pub data Each {K : Type 0} (a : Algebra K) (sum : K → K → K) (h : Estimates 
   took : p ≡ q → Took a sum h x m m' p → Each a sum h q x m m' p
 
 module _ {K : Type 0} (a : Algebra K) (sum : K → K → K) (h : Estimates K) (q : ℕ) (x : Label K) (m m' : Memory K) where
-  known-takes : (r : Record K) (y : Label K) → takes a r x ≡ true → known (Some r) ≡ Some y → earlier a x y ≡ true
-  known-takes r y e k = grind arith
+  known_takes : (r : Record K) (y : Label K) → takes a r x ≡ true → known (Some r) ≡ Some y → earlier a x y ≡ true
+  known_takes r y e k = grind arith
 
-  known-passes : (r : Record K) → takes a r x ≡ false → r.known ≡ true
-  known-passes r e = grind arith
+  known_passes : (r : Record K) → takes a r x ≡ false → r.known ≡ true
+  known_passes r e = grind arith
 
-  known-not-after : (r : Record K) → takes a r x ≡ false → earlier a x (label r) ≡ false
-  known-not-after r e = grind arith
+  known_not_after : (r : Record K) → takes a r x ≡ false → earlier a x (label r) ≡ false
+  known_not_after r e = grind arith
 
-  recorded-here : (r : Record K) → slice_get m.table q ≡ Some r → takes a r x ≡ true → Recorded sum h q x m m' → Took a sum h x m m' q
-  recorded-here r e t o = record { mark = ap (λ z. known (slice_get z q)) o.table ∙ ap known (nth_set_same m.table q r _ e); earlier = λ y k. known-takes r y t (sym (ap known e) ∙ k); dead_end = λ d. o.dead_end d q; put = λ e d. (o.put e d).here }
+  recorded_here : (r : Record K) → slice_get m.table q ≡ Some r → takes a r x ≡ true → Recorded sum h q x m m' → Took a sum h x m m' q
+  recorded_here r e t o = record { mark = ap (λ z. known (slice_get z q)) o.table ∙ ap known (nth_set_same m.table q r _ e); earlier = λ y k. known_takes r y t (sym (ap known e) ∙ k); dead_end = λ d. o.dead_end d q; put = λ e d. (o.put e d).here }
 
-  recorded-other : (p : ℕ) → (p ≡ q → ⊥) → Recorded sum h q x m m' → (w : Option K) → h q ≡ w → Each a sum h q x m m' p
-  recorded-other p d o None e = as_was (ap (λ z. known (slice_get z p)) o.table ∙ ap known (nth_set_other m.table q p _ d)) (o.dead_end e p)
-  recorded-other p d o (Some w) e = as_was (ap (λ z. known (slice_get z p)) o.table ∙ ap known (nth_set_other m.table q p _ d)) ((o.put w e).others p d)
+  recorded_other : (p : ℕ) → (p ≡ q → ⊥) → Recorded sum h q x m m' → (w : Option K) → h q ≡ w → Each a sum h q x m m' p
+  recorded_other p d o None e = as_was (ap (λ z. known (slice_get z p)) o.table ∙ ap known (nth_set_other m.table q p _ d)) (o.dead_end e p)
+  recorded_other p d o (Some w) e = as_was (ap (λ z. known (slice_get z p)) o.table ∙ ap known (nth_set_other m.table q p _ d)) ((o.put w e).others p d)
 
-  each-taken : (o : Offered a sum h q x m m') (p : ℕ) → takes a o.found x ≡ true → Dec (p ≡ q) → Each a sum h q x m m' p
-  each-taken o p t (yes e) = took e (subst (Took a sum h x m m') (sym e) (recorded-here o.found o.at t (o.taken t)))
-  each-taken o p t (no d) = recorded-other p d (o.taken t) (h q) refl
+  each_taken : (o : Offered a sum h q x m m') (p : ℕ) → takes a o.found x ≡ true → Dec (p ≡ q) → Each a sum h q x m m' p
+  each_taken o p t (yes e) = took e (subst (Took a sum h x m m') (sym e) (recorded_here o.found o.at t (o.taken t)))
+  each_taken o p t (no d) = recorded_other p d (o.taken t) (h q) refl
 
   pub each : Offered a sum h q x m m' → (p : ℕ) → Each a sum h q x m m' p
   each o p = go (takes a o.found x) refl
     where
       go : (b : Bool) → takes a o.found x ≡ b → Each a sum h q x m m' p
-      go true t = each-taken o p t (ℕ_discrete p q)
+      go true t = each_taken o p t (ℕ_discrete p q)
       go false t = as_was (ap (λ z. known (slice_get z p)) (o.passed t).table) ((o.passed t).waiting p)
 
   module _ (l : CostLaws a) where
@@ -96,23 +96,23 @@ module _ {K : Type 0} (a : Algebra K) (sum : K → K → K) (h : Estimates K) (q
     covers o = go (takes a o.found x) refl
       where
         go : (b : Bool) → takes a o.found x ≡ b → Covered a m' q x
-        go true t = record { label = x; is = (recorded-here o.found o.at t (o.taken t)).mark; not_after = not-after-self a l x }
-        go false t = record { label = label o.found; is = ap (λ z. known (slice_get z q)) (o.passed t).table ∙ mark_from m q o.found o.at (known-passes o.found t); not_after = known-not-after o.found t }
+        go true t = record { label = x; is = (recorded_here o.found o.at t (o.taken t)).mark; not_after = not_after_self a l x }
+        go false t = record { label = label o.found; is = ap (λ z. known (slice_get z q)) (o.passed t).table ∙ mark_from m q o.found o.at (known_passes o.found t); not_after = known_not_after o.found t }
 
     improves : (p : ℕ) (y : Label K) → Each a sum h q x m m' p → mark m p ≡ Some y → Covered a m' p y
-    improves p y (as_was k w) e = record { label = y; is = k ∙ e; not_after = not-after-self a l y }
-    improves p y (took s o) e = record { label = x; is = o.mark; not_after = earlier-not-after a l x y (o.earlier y e) }
+    improves p y (as_was k w) e = record { label = y; is = k ∙ e; not_after = not_after_self a l y }
+    improves p y (took s o) e = record { label = x; is = o.mark; not_after = earlier_not_after a l x y (o.earlier y e) }
 
-    pub covered-keeps : Offered a sum h q x m m' → (p : ℕ) (y : Label K) → Covered a m p y → Covered a m' p y
-    covered-keeps o p y c =
+    pub covered_keeps : Offered a sum h q x m m' → (p : ℕ) (y : Label K) → Covered a m p y → Covered a m' p y
+    covered_keeps o p y c =
         let better = improves p c.label (each o p) c.is in
-        record { label = better.label; is = better.is; not_after = not-after-trans a l better.label c.label y better.not_after c.not_after }
+        record { label = better.label; is = better.is; not_after = not_after_trans a l better.label c.label y better.not_after c.not_after }
 
 -- what each attempt of a sweep keeps, the sweep keeps
 module _ {K : Type 0} (t : Model) (a : Algebra K) (sum : K → K → K) (h : Estimates K) (p : ℕ) (y : Label K) (m : Memory K) (I : ℕ → Memory K → Type 0) where
-  pub along-sweep : I zero m → ((n : ℕ) (d : Memory K) → t.transition p n ≡ None → I n d → I (suc n) d) → ((n : ℕ) (d e : Memory K) (to : Transition) → t.transition p n ≡ Some to → Offered a sum h to.state (offer a sum y to) d e → I n d → I (suc n) e) → (n : ℕ) (m' : Memory K) → Swept t a sum h p y m n m' → I n m'
-  along-sweep base idle step zero m' none = base
-  along-sweep base idle step (suc n) m' (more {m' = d} w o) = go (t.transition p n) refl (along-sweep base idle step n d w)
+  pub along_sweep : I zero m → ((n : ℕ) (d : Memory K) → t.transition p n ≡ None → I n d → I (suc n) d) → ((n : ℕ) (d e : Memory K) (to : Transition) → t.transition p n ≡ Some to → Offered a sum h to.state (offer a sum y to) d e → I n d → I (suc n) e) → (n : ℕ) (m' : Memory K) → Swept t a sum h p y m n m' → I n m'
+  along_sweep base idle step zero m' none = base
+  along_sweep base idle step (suc n) m' (more {m' = d} w o) = go (t.transition p n) refl (along_sweep base idle step n d w)
     where
       go : (to : Option Transition) → t.transition p n ≡ to → I n d → I (suc n) m'
       go None e i = idle n m' e (subst (I n) (sym (same_memory d m' (o.inapplicable e))) i)

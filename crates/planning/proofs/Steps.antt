@@ -17,48 +17,48 @@ abbrev pub recorded : {K : Type 0} → Label K → Record K
 recorded x = record { cost = x.cost; tagged = x.tagged; known = true }
 
 module _ {K : Type 0} (a : Algebra K) (sum : K → K → K) (h : Estimates K) (q : ℕ) (x : Label K) (xs : List (Record K)) (w : Waiting K) (found : Record K) (at : slice_get xs q ≡ Some found) where
-  pub offer-passed : takes a found x ≡ false → Offered a sum h q x (record { table = xs; waiting = w }) (record { table = xs; waiting = w })
-  offer-passed e = record { found = found; at = at; taken = λ f. absurd (grind arith); passed = λ _. record { table = refl; waiting = λ _. refl } }
+  pub offer_passed : takes a found x ≡ false → Offered a sum h q x (record { table = xs; waiting = w }) (record { table = xs; waiting = w })
+  offer_passed e = record { found = found; at = at; taken = λ f. absurd (grind arith); passed = λ _. record { table = refl; waiting = λ _. refl } }
 
-  pub offer-dead-end : takes a found x ≡ true → h q ≡ None → Offered a sum h q x (record { table = xs; waiting = w }) (record { table = set xs q (recorded x); waiting = w })
-  offer-dead-end e d = record { found = found; at = at; taken = λ _. record { table = refl; dead_end = λ _ _. refl; put = λ e f. absurd (grind arith) }; passed = λ f. absurd (grind arith) }
+  pub offer_dead_end : takes a found x ≡ true → h q ≡ None → Offered a sum h q x (record { table = xs; waiting = w }) (record { table = set xs q (recorded x); waiting = w })
+  offer_dead_end e d = record { found = found; at = at; taken = λ _. record { table = refl; dead_end = λ _ _. refl; put = λ e f. absurd (grind arith) }; passed = λ f. absurd (grind arith) }
 
-  pub offer-put : (w' : Waiting K) (e : K) → takes a found x ≡ true → h q ≡ Some e → Put w w' q (sum x.cost e) x.tagged → Offered a sum h q x (record { table = xs; waiting = w }) (record { table = set xs q (recorded x); waiting = w' })
-  offer-put w' e f d p = record { found = found; at = at; taken = λ _. record { table = refl; dead_end = λ g. absurd (grind arith); put = λ k g. subst (λ k. Put w w' q (sum x.cost k) x.tagged) (same k g) p }; passed = λ g. absurd (grind arith) }
+  pub offer_put : (w' : Waiting K) (e : K) → takes a found x ≡ true → h q ≡ Some e → Put w w' q (sum x.cost e) x.tagged → Offered a sum h q x (record { table = xs; waiting = w }) (record { table = set xs q (recorded x); waiting = w' })
+  offer_put w' e f d p = record { found = found; at = at; taken = λ _. record { table = refl; dead_end = λ g. absurd (grind arith); put = λ k g. subst (λ k. Put w w' q (sum x.cost k) x.tagged) (same k g) p }; passed = λ g. absurd (grind arith) }
     where
       same : (k : K) → h q ≡ Some k → e ≡ k
       same k g = cc (d, g)
 
 module _ {K : Type 0} {t : Model} {a : Algebra K} {sum : K → K → K} {h : Estimates K} {p : ℕ} {y : Label K} {m : Memory K} {n : ℕ} {d : Memory K} where
   -- an action that is not applicable
-  pub swept-idle : Swept t a sum h p y m n d → t.transition p n ≡ None → Swept t a sum h p y m (n + 1) d
-  swept-idle w e = rw add-one (more w (record { inapplicable = λ _. record { table = refl; waiting = λ _. refl }; applicable = λ to f. absurd (grind arith) }))
+  pub swept_idle : Swept t a sum h p y m n d → t.transition p n ≡ None → Swept t a sum h p y m (n + 1) d
+  swept_idle w e = rw add-one (more w (record { inapplicable = λ _. record { table = refl; waiting = λ _. refl }; applicable = λ to f. absurd (grind arith) }))
 
-  pub swept-offer : {d' : Memory K} (to : Transition) (x : Label K) → Swept t a sum h p y m n d → t.transition p n ≡ Some to → x ≡ offer a sum y to → Offered a sum h to.state x d d' → Swept t a sum h p y m (n + 1) d'
-  swept-offer {d' = d'} to x w e f o = rw add-one (more w (record { inapplicable = λ g. absurd (grind arith); applicable = λ at g. subst (λ at. Offered a sum h at.state (offer a sum y at) d d') (same at g) (subst (λ x. Offered a sum h to.state x d d') f o) }))
+  pub swept_offer : {d' : Memory K} (to : Transition) (x : Label K) → Swept t a sum h p y m n d → t.transition p n ≡ Some to → x ≡ offer a sum y to → Offered a sum h to.state x d d' → Swept t a sum h p y m (n + 1) d'
+  swept_offer {d' = d'} to x w e f o = rw add-one (more w (record { inapplicable = λ g. absurd (grind arith); applicable = λ at g. subst (λ at. Offered a sum h at.state (offer a sum y at) d d') (same at g) (subst (λ x. Offered a sum h to.state x d d') f o) }))
     where
       same : (at : Transition) → t.transition p n ≡ Some at → to ≡ at
       same at g = cc (e, g)
 
-  pub swept-to : {k : ℕ} → n ≡ k → Swept t a sum h p y m n d → Swept t a sum h p y m k d
-  swept-to e w = subst (λ n. Swept t a sum h p y m n d) e w
+  pub swept_to : {k : ℕ} → n ≡ k → Swept t a sum h p y m n d → Swept t a sum h p y m k d
+  swept_to e w = subst (λ n. Swept t a sum h p y m n d) e w
 
 module _ {K : Type 0} {t : Model} {a : Algebra K} {sum : K → K → K} {h : Estimates K} {c : Configuration K} {k : ℕ} {d : Configuration K} where
-  pub runs-more : {e : Configuration K} → Runs t a sum h c k d → d.numbers.status ≡ Open → Turn t a sum h d e → Runs t a sum h c (k + 1) e
-  runs-more runs f o = rw add-one (turn runs f o)
+  pub runs_more : {e : Configuration K} → Runs t a sum h c k d → d.numbers.status ≡ Open → Turn t a sum h d e → Runs t a sum h c (k + 1) e
+  runs_more runs f o = rw add-one (turn runs f o)
 
   pub runs_to : {j : ℕ} → k ≡ j → Runs t a sum h c k d → Runs t a sum h c j d
   runs_to e runs = subst (λ n. Runs t a sum h c n d) e runs
 
 module _ {K : Type 0} (a : Algebra K) where
-  cleared-suc : (i : ℕ) (xs : List (Record K)) → i < length xs → set (cleared a i xs) i (blank a) ≡ cleared a (suc i) xs
-  cleared-suc i [] b = absurd (omega arith)
-  cleared-suc zero (x ∷ xs) b = refl
-  cleared-suc (suc i) (x ∷ xs) b = ap {B = List (Record K)} (λ z. blank a ∷ z) (cleared-suc i xs (omega arith))
+  cleared_suc : (i : ℕ) (xs : List (Record K)) → i < length xs → set (cleared a i xs) i (blank a) ≡ cleared a (suc i) xs
+  cleared_suc i [] b = absurd (omega arith)
+  cleared_suc zero (x ∷ xs) b = refl
+  cleared_suc (suc i) (x ∷ xs) b = ap {B = List (Record K)} (λ z. blank a ∷ z) (cleared_suc i xs (omega arith))
 
   -- one more record made blank
   pub cleared_more : (i : ℕ) (xs : List (Record K)) → i < length xs → set (cleared a i xs) i (blank a) ≡ cleared a (i + 1) xs
-  cleared_more i xs b = rw add-one (cleared-suc i xs b)
+  cleared_more i xs b = rw add-one (cleared_suc i xs b)
 
   pub length-cleared : (i : ℕ) (xs : List (Record K)) → i ≤ length xs → length (cleared a i xs) ≡ length xs
   length-cleared zero xs b = refl

@@ -9,7 +9,7 @@ use Rattle.sheet_layout.specs.Frame.{records_checks}
 use Rattle.sheet_layout.specs.Numbers.{num16}
 use Rattle.sheet_layout.specs.Strips.{strips_checks, strips_head_checks, strips_kind}
 use Rattle.sheet_layout.proofs.FiniteDomainSheets.{sheet_passed}
-use Rattle.sheet_layout.proofs.Opening.{opening-passed}
+use Rattle.sheet_layout.proofs.Opening.{opening_passed}
 use Rattle.sheet_layout.proofs.StripsSheets.{head_passed}
 use Rattle.sheets.specs.Reading.{room_check}
 
@@ -28,7 +28,7 @@ room_passes cs count e few fails = go (first_failing cs) refl
 pub facts_few : (bs : List ℕ) → first_failing (strips_checks bs) ≡ None → num16 bs 7 ≤ 512
 facts_few bs h =
     let records = records_checks strips_kind bs (num16 bs 7) 17 in
-    (head_passed bs records (opening-passed strips_kind bs (strips_head_checks bs ++ records) h).1).0.few_actions
+    (head_passed bs records (opening_passed strips_kind bs (strips_head_checks bs ++ records) h).1).0.few_actions
 
 pub variables_few : (bs : List ℕ) → first_failing (finite_domain_checks bs) ≡ None → num16 bs 7 ≤ 512
 variables_few bs h = (sheet_passed bs h).head.few_actions

@@ -61,9 +61,9 @@ module _ (bs : List ℕ) (long : 9 + byte_at bs 6 ≤ length bs) where
   counted : length (counts_of bs) ≡ byte_at bs 6
   counted = part_length bs 9 (byte_at bs 6) long
 
-  pub pairs-valid : (n p least : ℕ) → present_pairs bs n p least ≡ true → ValidList (counts_of bs) least (read_pairs bs n p)
-  pairs-valid zero p least h = tt
-  pairs-valid (suc n) p least h =
+  pub pairs_valid : (n p least : ℕ) → present_pairs bs n p least ≡ true → ValidList (counts_of bs) least (read_pairs bs n p)
+  pairs_valid zero p least h = tt
+  pairs_valid (suc n) p least h =
       let a = and_parts (present_pair bs p least) _ h in
       let b = and_parts _ _ a.0 in
       let c = and_parts _ _ b.1 in
@@ -71,19 +71,19 @@ module _ (bs : List ℕ) (long : 9 + byte_at bs 6 ≤ length bs) where
         leb-true _ _ b.0,
         omega (arith, counted, low),
         rw (part_at bs 9 (byte_at bs 6) (byte_at bs p) low) (ltb-true _ _ c.1),
-        pairs-valid n (p + 2) (byte_at bs p + 1) a.1,
+        pairs_valid n (p + 2) (byte_at bs p + 1) a.1,
       )
 
   -- valid pairs that were written pass, and are read back
-  pub pairs-back : (xs : List Assignment) (p least : ℕ) (rest : List ℕ) → ValidList (counts_of bs) least xs → drop p bs ≡ flat_map assignment_bytes xs ++ rest → (present_pairs bs (length xs) p least ≡ true) × (read_pairs bs (length xs) p ≡ xs)
-  pairs-back [] p least rest v at = (refl, refl)
-  pairs-back (x ∷ xs) p least rest v at =
+  pub pairs_back : (xs : List Assignment) (p least : ℕ) (rest : List ℕ) → ValidList (counts_of bs) least xs → drop p bs ≡ flat_map assignment_bytes xs ++ rest → (present_pairs bs (length xs) p least ≡ true) × (read_pairs bs (length xs) p ≡ xs)
+  pairs_back [] p least rest v at = (refl, refl)
+  pairs_back (x ∷ xs) p least rest v at =
       let variable : byte_at bs p ≡ x.variable = ap (byte_at bs) (sym (add-zero p)) ∙ at_front bs p (flat_map assignment_bytes (x ∷ xs)) rest at 0 in
       let value : byte_at bs (p + 1) ≡ x.value = at_front bs p (flat_map assignment_bytes (x ∷ xs)) rest at 1 in
       let low : byte_at bs p < byte_at bs 6 = omega (arith, variable, v.1, counted) in
       let count : get_or (counts_of bs) x.variable 0 ≡ byte_at bs (9 + byte_at bs p) = ap (λ i. get_or (counts_of bs) i 0) (sym variable) ∙ part_at bs 9 (byte_at bs 6) (byte_at bs p) low in
       let tail : drop (p + 2) bs ≡ flat_map assignment_bytes xs ++ rest = past bs p 2 (assignment_bytes x) (flat_map assignment_bytes xs ++ rest) at refl in
-      let more = pairs-back xs (p + 2) (x.variable + 1) rest v.3 tail in (
+      let more = pairs_back xs (p + 2) (x.variable + 1) rest v.3 tail in (
         and_from (present_pair bs p least) _
             (and_from _ _ (le-leb least (byte_at bs p) (omega (arith, variable, v.0)))
             (and_from _ _ (lt-ltb (byte_at bs p) (byte_at bs 6) low) (lt-ltb (byte_at bs (p + 1)) (byte_at bs (9 + byte_at bs p)) (omega (arith, value, count, v.2)))))
@@ -96,7 +96,7 @@ module _ (bs : List ℕ) (long : 9 + byte_at bs 6 ≤ length bs) where
   list_back xs p end rest v at room =
       let count : byte_at bs p ≡ length xs = ap (byte_at bs) (sym (add-zero p)) ∙ at_front bs p (list_bytes xs) rest at 0 in
       let tail : drop (p + 1) bs ≡ flat_map assignment_bytes xs ++ rest = past bs p 1 (length xs ∷ []) (flat_map assignment_bytes xs ++ rest) at refl in
-      let back = pairs-back xs (p + 1) 0 rest v tail in
+      let back = pairs_back xs (p + 1) 0 rest v tail in
       let wide = pairs_long xs in
       let ends : end_of_list bs p ≡ p + length (list_bytes xs) = omega (arith, count, wide) in
       let short = list_short (counts_of bs) 0 xs v in (
@@ -107,8 +107,8 @@ module _ (bs : List ℕ) (long : 9 + byte_at bs 6 ≤ length bs) where
         ap (λ i. drop i bs) ends ∙ past bs p (length (list_bytes xs)) (list_bytes xs) rest at refl,
       )
 
-  pub assignments-decode : byte_at bs 6 ≤ 16 → Decodes finite_domain_kind assignments_bytes (ValidAssignments (counts_of bs)) read_assignments bs
-  assignments-decode few = record {
+  pub assignments_decode : byte_at bs 6 ≤ 16 → Decodes finite_domain_kind assignments_bytes (ValidAssignments (counts_of bs)) read_assignments bs
+  assignments_decode few = record {
     sound = λ p e fits ends inside present.
         let q = end_of_list bs p in
         let mid : q < e = ltb-true q e (and_parts _ _ (and_parts (list_fits bs p e) (list_fits bs q e) fits).1).0 in
@@ -118,7 +118,7 @@ module _ (bs : List ℕ) (long : 9 + byte_at bs 6 ≤ length bs) where
         let first = list_laid bs p (omega arith) (omega arith) in
         let second = list_laid bs q (omega arith) (omega arith) in (
           append_assoc one two (drop (end_of_list bs q) bs) ∙ ap (λ l. one ++ l) second ∙ first,
-          record { preconditions = pairs-valid (byte_at bs p) (p + 1) 0 g.0; effects = pairs-valid (byte_at bs q) (q + 1) 0 g.1 },
+          record { preconditions = pairs_valid (byte_at bs p) (p + 1) 0 g.0; effects = pairs_valid (byte_at bs q) (q + 1) 0 g.1 },
           (
               let a = pairs_long (read_list bs p) in
               let b = pairs_long (read_list bs q) in

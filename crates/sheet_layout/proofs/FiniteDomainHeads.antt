@@ -25,19 +25,19 @@ counts_pass [] p v = refl
 counts_pass (n ∷ ns) p v = pass _ _ _ (and_from _ _ (le-leb _ _ v.0.two) (le-leb _ _ v.0.sixteen)) ∙ counts_pass ns (p + 1) v.1
 
 module _ (passing : ℕ → ℕ → Bool) (R : ℕ → ℕ → Type 0) where
-  values-passed : ((v n : ℕ) → passing v n ≡ true → R v n) → (ns vs : List ℕ) (p : ℕ) → length vs ≡ length ns → first_failing (values_checks passing ns vs p) ≡ None → AllZip R vs ns
-  values-passed says [] [] p long h = tt
-  values-passed says [] (v ∷ vs) p long h = absurd (omega arith)
-  values-passed says (n ∷ ns) [] p long h = absurd (omega arith)
-  values-passed says (n ∷ ns) (v ∷ vs) p long h =
+  values_passed : ((v n : ℕ) → passing v n ≡ true → R v n) → (ns vs : List ℕ) (p : ℕ) → length vs ≡ length ns → first_failing (values_checks passing ns vs p) ≡ None → AllZip R vs ns
+  values_passed says [] [] p long h = tt
+  values_passed says [] (v ∷ vs) p long h = absurd (omega arith)
+  values_passed says (n ∷ ns) [] p long h = absurd (omega arith)
+  values_passed says (n ∷ ns) (v ∷ vs) p long h =
       let a = passed (passing v n) _ _ h in
-      (says v n a.0, values-passed says ns vs (p + 1) (omega arith) a.1)
+      (says v n a.0, values_passed says ns vs (p + 1) (omega arith) a.1)
 
-  values-pass : ((v n : ℕ) → R v n → passing v n ≡ true) → (ns vs : List ℕ) (p : ℕ) → AllZip R vs ns → first_failing (values_checks passing ns vs p) ≡ None
-  values-pass holds [] [] p e = refl
-  values-pass holds [] (v ∷ vs) p e = absurd e
-  values-pass holds (n ∷ ns) [] p e = absurd e
-  values-pass holds (n ∷ ns) (v ∷ vs) p e = pass (passing v n) _ _ (holds v n e.0) ∙ values-pass holds ns vs (p + 1) e.1
+  values_pass : ((v n : ℕ) → R v n → passing v n ≡ true) → (ns vs : List ℕ) (p : ℕ) → AllZip R vs ns → first_failing (values_checks passing ns vs p) ≡ None
+  values_pass holds [] [] p e = refl
+  values_pass holds [] (v ∷ vs) p e = absurd e
+  values_pass holds (n ∷ ns) [] p e = absurd e
+  values_pass holds (n ∷ ns) (v ∷ vs) p e = pass (passing v n) _ _ (holds v n e.0) ∙ values_pass holds ns vs (p + 1) e.1
 
 pub each_length : (R : ℕ → ℕ → Type 0) (xs ys : List ℕ) → AllZip R xs ys → length xs ≡ length ys
 each_length R [] [] e = refl
@@ -72,19 +72,19 @@ pub record CountsPassed (d m : ℕ) (ns : List ℕ) : Type 0 where
   pub few_states : product ns ≤ 65536
 
 module _ (variables actions : ℕ) (counts start goal : List ℕ) where
-  pub size-passed : first_failing (finite_domain_head variables actions counts start goal) ≡ None → (1 ≤ variables) × (variables ≤ 16)
-  size-passed h =
+  pub size_passed : first_failing (finite_domain_head variables actions counts start goal) ≡ None → (1 ≤ variables) × (variables ≤ 16)
+  size_passed h =
       let a = and_parts _ _ (passed _ _ _ h).0 in
       (leb-true _ _ a.0, leb-true _ _ a.1)
 
-  values-left : List Check
-  values-left = values_checks ltb counts start (9 + variables) ++ values_checks value_or_any counts goal (9 + 2 * variables)
+  values_left : List Check
+  values_left = values_checks ltb counts start (9 + variables) ++ values_checks value_or_any counts goal (9 + 2 * variables)
 
-  all-passed : first_failing (finite_domain_head variables actions counts start goal) ≡ None → CountsPassed variables actions counts × (first_failing values-left ≡ None)
-  unfolding values-left
-  all-passed h =
+  all_passed : first_failing (finite_domain_head variables actions counts start goal) ≡ None → CountsPassed variables actions counts × (first_failing values_left ≡ None)
+  unfolding values_left
+  all_passed h =
       let a = passed _ _ _ h in
-      let size = size-passed h in
+      let size = size_passed h in
       let b = passed _ _ _ a.1 in
       let count = and_parts _ _ b.0 in
       let c = both (counts_checks counts 9) _ b.1 in
@@ -100,13 +100,13 @@ module _ (variables actions : ℕ) (counts start goal : List ℕ) where
         d.1,
       )
 
-  pub counts-told : first_failing (finite_domain_head variables actions counts start goal) ≡ None → CountsPassed variables actions counts
-  counts-told h = (all-passed h).0
+  pub counts_told : first_failing (finite_domain_head variables actions counts start goal) ≡ None → CountsPassed variables actions counts
+  counts_told h = (all_passed h).0
 
   pub head_passed : length start ≡ length counts → length goal ≡ length counts → first_failing (finite_domain_head variables actions counts start goal) ≡ None → HeadPassed variables actions counts start goal
-  unfolding values-left
+  unfolding values_left
   head_passed starts goals h =
-      let a = all-passed h in
+      let a = all_passed h in
       let told = a.0 in
       let e = both (values_checks ltb counts start (9 + variables)) (values_checks value_or_any counts goal (9 + 2 * variables)) a.1 in
       record {
@@ -116,8 +116,8 @@ module _ (variables actions : ℕ) (counts start goal : List ℕ) where
         few_actions = told.few_actions;
         counts = told.counts;
         few_states = told.few_states;
-        start = values-passed ltb (λ v n. v < n) ltb-true counts start (9 + variables) starts e.0;
-        goal = values-passed value_or_any (λ v n. (v < n) ⊎ (v ≡ 255)) goal_says counts goal (9 + 2 * variables) goals e.1;
+        start = values_passed ltb (λ v n. v < n) ltb-true counts start (9 + variables) starts e.0;
+        goal = values_passed value_or_any (λ v n. (v < n) ⊎ (v ≡ 255)) goal_says counts goal (9 + 2 * variables) goals e.1;
       }
 
   pub head_pass : HeadPassed variables actions counts start goal → first_failing (finite_domain_head variables actions counts start goal) ≡ None
@@ -126,8 +126,8 @@ module _ (variables actions : ℕ) (counts start goal : List ℕ) where
       ∙ pass _ _ _ (and_from _ _ (le-leb _ _ h.some_action) (le-leb _ _ h.few_actions))
       ∙ after (counts_checks counts 9) _ (counts_pass counts 9 h.counts)
       ∙ pass (leb (product counts) 65536) _ _ (le-leb (product counts) 65536 h.few_states)
-      ∙ after (values_checks ltb counts start (9 + variables)) _ (values-pass ltb (λ v n. v < n) lt-ltb counts start (9 + variables) h.start)
-      ∙ values-pass value_or_any (λ v n. (v < n) ⊎ (v ≡ 255)) goal_holds counts goal (9 + 2 * variables) h.goal
+      ∙ after (values_checks ltb counts start (9 + variables)) _ (values_pass ltb (λ v n. v < n) lt-ltb counts start (9 + variables) h.start)
+      ∙ values_pass value_or_any (λ v n. (v < n) ⊎ (v ≡ 255)) goal_holds counts goal (9 + 2 * variables) h.goal
 
 -- the checks of the lists from their i-th element on
 pub counts_on : (ns : List ℕ) (i p : ℕ) → i < length ns → first_failing (counts_checks (drop i ns) p) ≡ otherwise (leb 2 (get_or ns i 0) && leb (get_or ns i 0) 16) (Count p) (first_failing (counts_checks (drop (i + 1) ns) (p + 1)))
@@ -137,47 +137,47 @@ pub counts_end : (ns : List ℕ) (i p : ℕ) → length ns ≤ i → first_faili
 counts_end ns i p h = at_drop_all (λ l. first_failing (counts_checks l p)) ns i h
 
 module _ (passing : ℕ → ℕ → Bool) (ns vs : List ℕ) (same : length vs ≡ length ns) where
-  pub values-on : (i p : ℕ) → i < length ns → first_failing (values_checks passing (drop i ns) (drop i vs) p) ≡ otherwise (passing (get_or vs i 0) (get_or ns i 0)) (StartOrGoal p) (first_failing (values_checks passing (drop (i + 1) ns) (drop (i + 1) vs) (p + 1)))
-  values-on i p h =
+  pub values_on : (i p : ℕ) → i < length ns → first_failing (values_checks passing (drop i ns) (drop i vs) p) ≡ otherwise (passing (get_or vs i 0) (get_or ns i 0)) (StartOrGoal p) (first_failing (values_checks passing (drop (i + 1) ns) (drop (i + 1) vs) (p + 1)))
+  values_on i p h =
       let a = drop_more ns i 0 h in
       let b = drop_more vs i 0 (omega arith) in
       λ j. first_failing (values_checks passing (a j) (b j) p)
 
-  pub values-end : (i p : ℕ) → length ns ≤ i → first_failing (values_checks passing (drop i ns) (drop i vs) p) ≡ None
-  values-end i p h = at_drop_all (λ l. first_failing (values_checks passing l (drop i vs) p)) ns i h
+  pub values_end : (i p : ℕ) → length ns ≤ i → first_failing (values_checks passing (drop i ns) (drop i vs) p) ≡ None
+  values_end i p h = at_drop_all (λ l. first_failing (values_checks passing l (drop i vs) p)) ns i h
 
 -- where no value stands for any, the test is the plain one
 pub values_plain : (ns vs : List ℕ) (p : ℕ) → values_checks (λ v n. ltb v n || (false && eqb v 255)) ns vs p ≡ values_checks ltb ns vs p
-values_plain ns vs p = λ i. values_checks (λ v n. or-false (ltb v n) i) ns vs p
+values_plain ns vs p = λ i. values_checks (λ v n. or_false (ltb v n) i) ns vs p
   where
-    or-false : (b : Bool) → (b || false) ≡ b
-    or-false true = refl
-    or-false false = refl
+    or_false : (b : Bool) → (b || false) ≡ b
+    or_false true = refl
+    or_false false = refl
 
 -- the row of a head's checks, check by check
 module _ (d m : ℕ) (ns vs gs : List ℕ) (size : (1 ≤ d) × (d ≤ 16)) (few : (1 ≤ m) × (m ≤ 512)) where
-  values-row : List Check
-  values-row = values_checks ltb ns vs (9 + d) ++ values_checks value_or_any ns gs (9 + 2 * d)
+  values_row : List Check
+  values_row = values_checks ltb ns vs (9 + d) ++ values_checks value_or_any ns gs (9 + 2 * d)
 
-  counts-row : first_failing (finite_domain_head d m ns vs gs) ≡ first_failing (counts_checks ns 9 ++ (record { passes = leb (product ns) 65536; refusal = Count 6 } ∷ values-row))
-  unfolding values-row
-  counts-row =
+  counts_row : first_failing (finite_domain_head d m ns vs gs) ≡ first_failing (counts_checks ns 9 ++ (record { passes = leb (product ns) 65536; refusal = Count 6 } ∷ values_row))
+  unfolding values_row
+  counts_row =
       pass _ _ _ (and_from _ _ (le-leb _ _ size.0) (le-leb _ _ size.1)) ∙ pass _ _ _ (and_from _ _ (le-leb _ _ few.0) (le-leb _ _ few.1))
 
-  pub counts-fail : (r : Refusal) → first_failing (counts_checks ns 9) ≡ Some r → first_failing (finite_domain_head d m ns vs gs) ≡ Some r
-  counts-fail r e = counts-row ∙ within (counts_checks ns 9) _ r e
+  pub counts_fail : (r : Refusal) → first_failing (counts_checks ns 9) ≡ Some r → first_failing (finite_domain_head d m ns vs gs) ≡ Some r
+  counts_fail r e = counts_row ∙ within (counts_checks ns 9) _ r e
 
   module _ (counted : first_failing (counts_checks ns 9) ≡ None) where
-    product-row : first_failing (finite_domain_head d m ns vs gs) ≡ otherwise (leb (product ns) 65536) (Count 6) (first_failing values-row)
-    product-row = counts-row ∙ after (counts_checks ns 9) _ counted
+    product-row : first_failing (finite_domain_head d m ns vs gs) ≡ otherwise (leb (product ns) 65536) (Count 6) (first_failing values_row)
+    product-row = counts_row ∙ after (counts_checks ns 9) _ counted
 
-    pub product-fail : 65536 < product ns → first_failing (finite_domain_head d m ns vs gs) ≡ Some (Count 6)
-    product-fail h = product-row ∙ fail (leb (product ns) 65536) _ _ (lt-leb (product ns) 65536 h)
+    pub product_fail : 65536 < product ns → first_failing (finite_domain_head d m ns vs gs) ≡ Some (Count 6)
+    product_fail h = product-row ∙ fail (leb (product ns) 65536) _ _ (lt-leb (product ns) 65536 h)
 
     module _ (states : product ns ≤ 65536) where
-      pub start-row : first_failing (finite_domain_head d m ns vs gs) ≡ first_failing (values_checks ltb ns vs (9 + d) ++ values_checks value_or_any ns gs (9 + 2 * d))
-      unfolding values-row
-      start-row = product-row ∙ pass (leb (product ns) 65536) _ _ (le-leb (product ns) 65536 states)
+      pub start_row : first_failing (finite_domain_head d m ns vs gs) ≡ first_failing (values_checks ltb ns vs (9 + d) ++ values_checks value_or_any ns gs (9 + 2 * d))
+      unfolding values_row
+      start_row = product-row ∙ pass (leb (product ns) 65536) _ _ (le-leb (product ns) 65536 states)
 
 -- every number of values is at least one, so no product is 0
 pub product_some : (ns : List ℕ) → AllByRecursion ValidCount ns → 1 ≤ product ns
@@ -206,7 +206,7 @@ counted_valid ns h = counts_passed ns 9 h
 
 -- values pass exactly when each is below its variable's number of values
 pub plain_passed : (ns vs : List ℕ) (p : ℕ) → length vs ≡ length ns → first_failing (values_checks (λ v n. ltb v n || (false && eqb v 255)) ns vs p) ≡ None → AllZip (λ v n. v < n) vs ns
-plain_passed ns vs p long h = values-passed ltb (λ v n. v < n) ltb-true ns vs p long (sym (ap first_failing (values_plain ns vs p)) ∙ h)
+plain_passed ns vs p long h = values_passed ltb (λ v n. v < n) ltb-true ns vs p long (sym (ap first_failing (values_plain ns vs p)) ∙ h)
 
 pub plain_pass : (ns vs : List ℕ) (p : ℕ) → AllZip (λ v n. v < n) vs ns → first_failing (values_checks (λ v n. ltb v n || (false && eqb v 255)) ns vs p) ≡ None
-plain_pass ns vs p e = ap first_failing (values_plain ns vs p) ∙ values-pass ltb (λ v n. v < n) lt-ltb ns vs p e
+plain_pass ns vs p e = ap first_failing (values_plain ns vs p) ∙ values_pass ltb (λ v n. v < n) lt-ltb ns vs p e

@@ -8,11 +8,11 @@ use Rattle.planning.proofs.Rows.{after, front}
 use Rattle.sheet_layout.specs.Frame.{ValidAction, record_bytes, records_checks, head_of, length_of_head, sheet_bytes}
 use Rattle.sheet_layout.specs.Numbers.{Bytes, byte_at, num16}
 use Rattle.sheet_layout.specs.FiniteDomain.{FiniteDomainContent, ValidAssignments, ValidFiniteDomain, assignments_bytes, finite_domain_bytes, finite_domain_kind, finite_domain_head, finite_domain_head_checks, finite_domain_checks, read_assignments, part}
-use Rattle.sheet_layout.proofs.Assigning.{counts_of, part_length, assignments_short, assignments-decode}
+use Rattle.sheet_layout.proofs.Assigning.{counts_of, part_length, assignments_short, assignments_decode}
 use Rattle.sheet_layout.proofs.Bytewise.{past}
-use Rattle.sheet_layout.proofs.FiniteDomainHeads.{HeadPassed, size-passed, head_passed, head_pass, each_length}
-use Rattle.sheet_layout.proofs.Framing.{actions_from, records-sound, records-complete}
-use Rattle.sheet_layout.proofs.Opening.{OpeningPassed, opening-passed, opening-pass, opening_written, whole, records_short}
+use Rattle.sheet_layout.proofs.FiniteDomainHeads.{HeadPassed, size_passed, head_passed, head_pass, each_length}
+use Rattle.sheet_layout.proofs.Framing.{actions_from, records_sound, records_complete}
+use Rattle.sheet_layout.proofs.Opening.{OpeningPassed, opening_passed, opening_pass, opening_written, whole, records_short}
 
 -- where the records begin
 abbrev pub records_at : List ℕ → ℕ
@@ -56,9 +56,9 @@ pub sheet_passed : (bs : List ℕ) → first_failing (finite_domain_checks bs) �
 sheet_passed bs h =
     let d = byte_at bs 6 in
     let records = records_checks finite_domain_kind bs (num16 bs 7) (records_at bs) in
-    let o = opening-passed finite_domain_kind bs (finite_domain_head_checks bs ++ records) h in
+    let o = opening_passed finite_domain_kind bs (finite_domain_head_checks bs ++ records) h in
     let head = front (finite_domain_head_checks bs) records o.1 in
-    let size = size-passed d (num16 bs 7) (counts_of bs) (start_of bs) (goal_of bs) head in
+    let size = size_passed d (num16 bs 7) (counts_of bs) (start_of bs) (goal_of bs) head in
     let long : records_at bs ≤ length bs = omega (arith, o.0.head, variables_head bs o.0.kind size.0 size.1) in
     let a = part_length bs 9 d (omega arith) in
     let b = part_length bs (9 + d) d (omega arith) in
@@ -81,7 +81,7 @@ finite_domain_sound bs small h =
     let counted : length (counts_of bs) ≡ d = part_length bs 9 d (omega arith) in
     let three = counts_of bs ++ (start_of bs ++ goal_of bs) in
     let wide : length three ≡ 3 * d = length-append (counts_of bs) (start_of bs ++ goal_of bs) ∙ omega (arith, counted, length-append (start_of bs) (goal_of bs), part_length bs (9 + d) d (omega arith), part_length bs (9 + 2 * d) d (omega arith)) in
-    let recs = records-sound finite_domain_kind assignments_bytes (ValidAssignments (counts_of bs)) read_assignments bs small (assignments-decode bs (omega arith) head.few_variables) (num16 bs 7) (records_at bs) long s.records in
+    let recs = records_sound finite_domain_kind assignments_bytes (ValidAssignments (counts_of bs)) read_assignments bs small (assignments_decode bs (omega arith) head.few_variables) (num16 bs 7) (records_at bs) long s.records in
     let ends : 9 + length three ≡ records_at bs = omega arith in
     let headed : three ++ drop (9 + length three) bs ≡ drop 9 bs =
     ap (λ i. three ++ drop i bs) ends
@@ -127,7 +127,7 @@ finite_domain_complete bs c small v e =
     let start : start_of bs ≡ c.start = part-written bs (9 + d) d c.start (c.goal ++ recs) later (starts ∙ size) in
     let goal : goal_of bs ≡ c.goal = part-written bs (9 + 2 * d) d c.goal recs last (goals ∙ size) in
     let each = subst (λ ns. AllByRecursion (ValidAction (ValidAssignments ns)) c.actions) (sym counts) v.each in
-    let told = records-complete finite_domain_kind assignments_bytes (ValidAssignments (counts_of bs)) read_assignments bs small (assignments-decode bs (omega arith) (omega arith)) c.actions (records_at bs) (omega arith) each body in
+    let told = records_complete finite_domain_kind assignments_bytes (ValidAssignments (counts_of bs)) read_assignments bs small (assignments_decode bs (omega arith) (omega arith)) c.actions (records_at bs) (omega arith) each body in
     let records = records_checks finite_domain_kind bs (num16 bs 7) (records_at bs) in
     let some : 1 ≤ d = omega (arith, v.some_variable) in
     let opening : OpeningPassed finite_domain_kind bs = record {
@@ -150,7 +150,7 @@ finite_domain_complete bs c small v e =
     } in
     let same : finite_domain_head_checks bs ≡ finite_domain_head (length c.counts) (length c.actions) c.counts c.start c.goal =
     λ i. finite_domain_head (o.size i) (o.count i) (counts i) (start i) (goal i) in (
-      opening-pass finite_domain_kind bs (finite_domain_head_checks bs ++ records) opening
+      opening_pass finite_domain_kind bs (finite_domain_head_checks bs ++ records) opening
           ∙ after (finite_domain_head_checks bs) records (ap first_failing same ∙ head_pass _ _ _ _ _ head)
           ∙ ap (λ n. first_failing (records_checks finite_domain_kind bs n (records_at bs))) o.count
           ∙ told.0,

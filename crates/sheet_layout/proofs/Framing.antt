@@ -44,28 +44,28 @@ pub record Passed (k : KindOf) (bs : List ℕ) (p : ℕ) : Type 0 where
   pub present : k.present bs (p + 6) ≡ true
 
 module _ (k : KindOf) (bs : List ℕ) where
-  pub framed-parts : (p : ℕ) → framed k bs p ≡ true → Framed k bs p
-  framed-parts p h =
+  pub framed_parts : (p : ℕ) → framed k bs p ≡ true → Framed k bs p
+  framed_parts p h =
       let a = and_parts _ _ h in
       let b = and_parts _ _ a.1 in
       let c = and_parts _ _ b.1 in
       let d = and_parts _ _ c.1 in
       record { room = leb-true _ _ a.0; inside = leb-true _ _ b.0; fits = c.0; named = leb-true _ _ d.0; short = leb-true _ _ d.1 }
 
-  pub framed-from : (p : ℕ) → Framed k bs p → framed k bs p ≡ true
-  framed-from p h =
+  pub framed_from : (p : ℕ) → Framed k bs p → framed k bs p ≡ true
+  framed_from p h =
       and_from _ _ (le-leb _ _ h.room) (and_from _ _ (le-leb _ _ h.inside) (and_from _ _ h.fits (and_from _ _ (le-leb _ _ h.named) (le-leb _ _ h.short))))
 
-  pub record-passed : (p : ℕ) (rest : List Check) → first_failing (record_checks k bs p ++ rest) ≡ None → Passed k bs p × (first_failing rest ≡ None)
-  record-passed p rest h =
+  pub record_passed : (p : ℕ) (rest : List Check) → first_failing (record_checks k bs p ++ rest) ≡ None → Passed k bs p × (first_failing rest ≡ None)
+  record_passed p rest h =
       let a = passed _ _ _ h in
       let b = passed _ _ _ a.1 in
       let c = passed _ _ _ b.1 in
-      (record { frame = framed-parts p a.0; cheap = leb-true _ _ b.0; present = c.0 }, c.1)
+      (record { frame = framed_parts p a.0; cheap = leb-true _ _ b.0; present = c.0 }, c.1)
 
-  pub record-pass : (p : ℕ) (rest : List Check) → Passed k bs p → first_failing (record_checks k bs p ++ rest) ≡ first_failing rest
-  record-pass p rest h =
-      pass _ _ _ (framed-from p h.frame) ∙ pass _ _ _ (le-leb _ _ h.cheap) ∙ pass _ _ _ h.present
+  pub record_pass : (p : ℕ) (rest : List Check) → Passed k bs p → first_failing (record_checks k bs p ++ rest) ≡ first_failing rest
+  record_pass p rest h =
+      pass _ _ _ (framed_from p h.frame) ∙ pass _ _ _ (le-leb _ _ h.cheap) ∙ pass _ _ _ h.present
 
 regroup : (a b c d e : List ℕ) → (a ++ (b ++ (c ++ d))) ++ e ≡ a ++ (b ++ (c ++ (d ++ e)))
 regroup a b c d e = simp append_assoc
@@ -79,8 +79,8 @@ module _ {C : Type 0} (k : KindOf) (layout : C → List ℕ) (Valid : C → Type
       (cases_lt i n)
 
   -- a record that passes is the layout of the action that is read there
-  record-sound : (p : ℕ) → Passed k bs p → (record_bytes layout (action_at k read bs p) ++ drop (record_end bs p) bs ≡ drop p bs) × ValidAction Valid (action_at k read bs p)
-  record-sound p h =
+  record_sound : (p : ℕ) → Passed k bs p → (record_bytes layout (action_at k read bs p) ++ drop (record_end bs p) bs ≡ drop p bs) × ValidAction Valid (action_at k read bs p)
+  record_sound p h =
       let q = k.ending bs (p + 6) in
       let e = record_end bs p in
       let frame = h.frame in
@@ -107,34 +107,34 @@ module _ {C : Type 0} (k : KindOf) (layout : C → List ℕ) (Valid : C → Type
         },
       )
 
-  pub records-sound : (n p : ℕ) → p ≤ length bs → first_failing (records_checks k bs n p) ≡ None
+  pub records_sound : (n p : ℕ) → p ≤ length bs → first_failing (records_checks k bs n p) ≡ None
       → (flat_map (record_bytes layout) (actions_from k read bs n p) ≡ drop p bs) × AllByRecursion (ValidAction Valid) (actions_from k read bs n p) × (length (actions_from k read bs n p) ≡ n)
-  records-sound zero p le h = (sym (drop_all p bs (leb-true _ _ (passed _ _ _ h).0)), tt, refl)
-  records-sound (suc n) p le h =
-      let told = record-passed k bs p (records_checks k bs n (record_end bs p)) h in
-      let one = record-sound p told.0 in
-      let more = records-sound n (record_end bs p) told.0.frame.inside told.1 in
+  records_sound zero p le h = (sym (drop_all p bs (leb-true _ _ (passed _ _ _ h).0)), tt, refl)
+  records_sound (suc n) p le h =
+      let told = record_passed k bs p (records_checks k bs n (record_end bs p)) h in
+      let one = record_sound p told.0 in
+      let more = records_sound n (record_end bs p) told.0.frame.inside told.1 in
       (ap (λ l. record_bytes layout (action_at k read bs p) ++ l) more.0 ∙ one.0, (one.1, more.1), ap suc more.2)
 
   -- places are where the layouts before them end
-  pub places-sound : (i n p : ℕ) → p ≤ length bs → i ≤ n → first_failing (records_checks k bs n p) ≡ None → record_place bs i p ≡ p + length (flat_map (record_bytes layout) (take i (actions_from k read bs n p)))
-  places-sound zero n p le less h = omega arith
-  places-sound (suc i) zero p le less h = absurd (omega arith)
-  places-sound (suc i) (suc n) p le less h =
-      let told = record-passed k bs p (records_checks k bs n (record_end bs p)) h in
+  pub places_sound : (i n p : ℕ) → p ≤ length bs → i ≤ n → first_failing (records_checks k bs n p) ≡ None → record_place bs i p ≡ p + length (flat_map (record_bytes layout) (take i (actions_from k read bs n p)))
+  places_sound zero n p le less h = omega arith
+  places_sound (suc i) zero p le less h = absurd (omega arith)
+  places_sound (suc i) (suc n) p le less h =
+      let told = record_passed k bs p (records_checks k bs n (record_end bs p)) h in
       let inside = told.0.frame.inside in
-      let one = (record-sound p told.0).0 in
+      let one = (record_sound p told.0).0 in
       let x = record_bytes layout (action_at k read bs p) in
       let long : length x + (length bs - record_end bs p) ≡ length bs - p = ap (λ m. length x + m) (sym (length-drop (record_end bs p) bs)) ∙ sym (length-append x (drop (record_end bs p) bs)) ∙ ap length one ∙ length-drop p bs in
-      let more = places-sound i n (record_end bs p) inside (omega arith) told.1 in
+      let more = places_sound i n (record_end bs p) inside (omega arith) told.1 in
       let rest = flat_map (record_bytes layout) (take i (actions_from k read bs n (record_end bs p))) in
       let room = told.0.frame.room in
       omega (arith, more, long, length-append x rest, inside, room)
 
   -- the layout of a valid action passes, and is read back
-  record-complete : (p : ℕ) (x : Action C) (rest : List ℕ) → ValidAction Valid x → drop p bs ≡ record_bytes layout x ++ rest
+  record_complete : (p : ℕ) (x : Action C) (rest : List ℕ) → ValidAction Valid x → drop p bs ≡ record_bytes layout x ++ rest
       → Passed k bs p × (action_at k read bs p ≡ x) × (drop (record_end bs p) bs ≡ rest) × (record_end bs p ≤ length bs)
-  record-complete p x rest v e =
+  record_complete p x rest v e =
       let lay = layout x.does in
       let size = 4 + length lay + length x.name in
       let tail = x.name ++ rest in
@@ -167,14 +167,14 @@ module _ {C : Type 0} (k : KindOf) (layout : C → List ℕ) (Valid : C → Type
         inside,
       )
 
-  pub records-complete : (xs : List (Action C)) (p : ℕ) → p ≤ length bs → AllByRecursion (ValidAction Valid) xs → drop p bs ≡ flat_map (record_bytes layout) xs
+  pub records_complete : (xs : List (Action C)) (p : ℕ) → p ≤ length bs → AllByRecursion (ValidAction Valid) xs → drop p bs ≡ flat_map (record_bytes layout) xs
       → (first_failing (records_checks k bs (length xs) p) ≡ None) × (actions_from k read bs (length xs) p ≡ xs)
-  records-complete [] p le v e =
+  records_complete [] p le v e =
       (pass (leb (length bs) p) (Frame p) None (le-leb (length bs) p (omega (arith, sym (length-drop p bs) ∙ ap length e))), refl)
-  records-complete (x ∷ xs) p le v e =
-      let one = record-complete p x (flat_map (record_bytes layout) xs) v.0 e in
-      let more = records-complete xs (record_end bs p) one.3 v.1 one.2 in
-      (record-pass k bs p (records_checks k bs (length xs) (record_end bs p)) one.0 ∙ more.0, (λ i. one.1 i ∷ more.1 i))
+  records_complete (x ∷ xs) p le v e =
+      let one = record_complete p x (flat_map (record_bytes layout) xs) v.0 e in
+      let more = records_complete xs (record_end bs p) one.3 v.1 one.2 in
+      (record_pass k bs p (records_checks k bs (length xs) (record_end bs p)) one.0 ∙ more.0, (λ i. one.1 i ∷ more.1 i))
 
 -- a walk over n records after i of them: one record more, or the end
 pub records_on : (k : KindOf) (bs : List ℕ) (n i p : ℕ) → i < n → records_checks k bs (n - i) p ≡ record_checks k bs p ++ records_checks k bs (n - (i + 1)) (record_end bs p)

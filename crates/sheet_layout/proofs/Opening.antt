@@ -51,8 +51,8 @@ pub record OpeningPassed (k : KindOf) (bs : List ℕ) : Type 0 where
   pub kind : byte_at bs 5 ≡ k.code
 
 module _ (k : KindOf) (bs : List ℕ) where
-  pub opening-passed : (rest : List Check) → first_failing (opening_checks k bs ++ rest) ≡ None → OpeningPassed k bs × (first_failing rest ≡ None)
-  opening-passed rest h =
+  pub opening_passed : (rest : List Check) → first_failing (opening_checks k bs ++ rest) ≡ None → OpeningPassed k bs × (first_failing rest ≡ None)
+  opening_passed rest h =
       let a = passed _ _ _ h in
       let b = passed _ _ _ a.1 in
       let c = passed _ _ _ b.1 in
@@ -70,8 +70,8 @@ module _ (k : KindOf) (bs : List ℕ) where
         c.1,
       )
 
-  pub opening-pass : (rest : List Check) → OpeningPassed k bs → first_failing (opening_checks k bs ++ rest) ≡ first_failing rest
-  opening-pass rest h =
+  pub opening_pass : (rest : List Check) → OpeningPassed k bs → first_failing (opening_checks k bs ++ rest) ≡ first_failing rest
+  opening_pass rest h =
       pass _ _ _ (and_from _ _ (le-leb _ _ h.long) (and_from _ _ (le-leb _ _ h.short) (and_from _ _ (eq-eqb _ _ h.stated) (le-leb _ _ h.head))))
       ∙ pass _ _ _ (eq-eqb _ _ h.version)
       ∙ pass _ _ _ (eq-eqb _ _ h.kind)

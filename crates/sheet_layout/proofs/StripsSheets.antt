@@ -7,8 +7,8 @@ use Rattle.sheet_layout.specs.Frame.{ValidAction, record_bytes, records_checks, 
 use Rattle.sheet_layout.specs.Numbers.{Bytes, be32, byte_at, num16, num32}
 use Rattle.sheet_layout.specs.Strips.{Masks, StripsContent, ValidMasks, ValidStrips, masks_bytes, strips_bytes, present_mask, strips_kind, strips_head_checks, strips_checks}
 use Rattle.sheet_layout.proofs.Bytewise.{read32, written32, past}
-use Rattle.sheet_layout.proofs.Framing.{Decodes, actions_from, records-sound, records-complete}
-use Rattle.sheet_layout.proofs.Opening.{OpeningPassed, opening-passed, opening-pass, opening_written, whole, records_short}
+use Rattle.sheet_layout.proofs.Framing.{Decodes, actions_from, records_sound, records_complete}
+use Rattle.sheet_layout.proofs.Opening.{OpeningPassed, opening_passed, opening_pass, opening_written, whole, records_short}
 use Rattle.planning.proofs.Rows.{passed, pass}
 
 abbrev pub read_masks : List ℕ → ℕ → Masks
@@ -39,34 +39,34 @@ narrow : (m facts : ℕ) → m < 2 ^ facts → facts ≤ 16 → m < 4294967296
 narrow m facts h few = let le : 2 ^ facts ≤ 2 ^ 16 = pow_mono few in omega arith
 
 module _ (bs : List ℕ) (m : Masks) (p : ℕ) (rest : List ℕ) (v : ValidMasks (byte_at bs 6) m) (few : byte_at bs 6 ≤ 16) (at : drop p bs ≡ masks_bytes m ++ rest) where
-  rest-a : List ℕ
-  rest-a = be32 m.adds ++ (be32 m.deletes ++ rest)
+  rest_a : List ℕ
+  rest_a = be32 m.adds ++ (be32 m.deletes ++ rest)
 
-  place-a : drop p bs ≡ be32 m.preconditions ++ rest-a
-  unfolding rest-a
-  place-a = at ∙ simp append_assoc
+  place_a : drop p bs ≡ be32 m.preconditions ++ rest_a
+  unfolding rest_a
+  place_a = at ∙ simp append_assoc
 
-  place-b : drop (p + 4) bs ≡ rest-a
-  place-b = past bs p 4 (be32 m.preconditions) rest-a place-a refl
+  place_b : drop (p + 4) bs ≡ rest_a
+  place_b = past bs p 4 (be32 m.preconditions) rest_a place_a refl
 
-  place-c : drop (p + 8) bs ≡ be32 m.deletes ++ rest
-  unfolding rest-a
-  place-c = ap (λ i. drop i bs) (omega arith) ∙ past bs (p + 4) 4 (be32 m.adds) (be32 m.deletes ++ rest) place-b refl
+  place_c : drop (p + 8) bs ≡ be32 m.deletes ++ rest
+  unfolding rest_a
+  place_c = ap (λ i. drop i bs) (omega arith) ∙ past bs (p + 4) 4 (be32 m.adds) (be32 m.deletes ++ rest) place_b refl
 
-  is-a : num32 bs p ≡ m.preconditions
-  is-a = written32 bs p m.preconditions rest-a (narrow _ _ v.preconditions few) place-a
+  is_a : num32 bs p ≡ m.preconditions
+  is_a = written32 bs p m.preconditions rest_a (narrow _ _ v.preconditions few) place_a
 
   is_b : num32 bs (p + 4) ≡ m.adds
-  unfolding rest-a
-  is_b = written32 bs (p + 4) m.adds (be32 m.deletes ++ rest) (narrow _ _ v.adds few) place-b
+  unfolding rest_a
+  is_b = written32 bs (p + 4) m.adds (be32 m.deletes ++ rest) (narrow _ _ v.adds few) place_b
 
   is_c : num32 bs (p + 8) ≡ m.deletes
-  is_c = written32 bs (p + 8) m.deletes rest (narrow _ _ v.deletes few) place-c
+  is_c = written32 bs (p + 8) m.deletes rest (narrow _ _ v.deletes few) place_c
 
-  masks-back : (strips_kind.present bs p ≡ true) × (read_masks bs p ≡ m)
-  masks-back = (
-    and_from _ _ (present p _ is-a v.preconditions) (and_from _ _ (present (p + 4) _ is_b v.adds) (present (p + 8) _ is_c v.deletes)),
-    (λ i. record { preconditions = is-a i; adds = is_b i; deletes = is_c i }),
+  masks_back : (strips_kind.present bs p ≡ true) × (read_masks bs p ≡ m)
+  masks_back = (
+    and_from _ _ (present p _ is_a v.preconditions) (and_from _ _ (present (p + 4) _ is_b v.adds) (present (p + 8) _ is_c v.deletes)),
+    (λ i. record { preconditions = is_a i; adds = is_b i; deletes = is_c i }),
   )
     where
       present : (q n : ℕ) → num32 bs q ≡ n → n < 2 ^ byte_at bs 6 → present_mask bs q ≡ true
@@ -81,7 +81,7 @@ masks_decode bs small few = record {
         record { preconditions = ltb-true _ _ a.0; adds = ltb-true _ _ b.0; deletes = ltb-true _ _ b.1 },
         refl,
       );
-  complete = λ p e m rest v at room. let back = masks-back bs m p rest v few at in (refl, refl, back.0, back.1);
+  complete = λ p e m rest v at room. let back = masks_back bs m p rest v few at in (refl, refl, back.0, back.1);
   short = λ m v. omega arith;
 }
 
@@ -128,19 +128,19 @@ facts_head bs e = ap (λ n. length_of_head n (byte_at bs 6)) e
 pub to_records : (bs : List ℕ) → first_failing (strips_checks bs) ≡ None → (17 ≤ length bs) × (first_failing (records_checks strips_kind bs (num16 bs 7) 17) ≡ None)
 to_records bs h =
     let records = records_checks strips_kind bs (num16 bs 7) 17 in
-    let o = opening-passed strips_kind bs (strips_head_checks bs ++ records) h in
+    let o = opening_passed strips_kind bs (strips_head_checks bs ++ records) h in
     (omega (arith, o.0.head, facts_head bs o.0.kind), (head_passed bs records o.1).1)
 
 -- what passes is the sheet of a valid content
 pub strips_sound : (bs : List ℕ) → Bytes bs → first_failing (strips_checks bs) ≡ None → ValidStrips (strips_read bs) × (strips_bytes (strips_read bs) ≡ bs)
 strips_sound bs small h =
     let records = records_checks strips_kind bs (num16 bs 7) 17 in
-    let o = opening-passed strips_kind bs (strips_head_checks bs ++ records) h in
+    let o = opening_passed strips_kind bs (strips_head_checks bs ++ records) h in
     let p = head_passed bs records o.1 in
     let opening = o.0 in
     let head = p.0 in
     let long : 17 ≤ length bs = omega (arith, opening.head, facts_head bs opening.kind) in
-    let recs = records-sound strips_kind masks_bytes (ValidMasks (byte_at bs 6)) read_masks bs small (masks_decode bs small head.few_facts) (num16 bs 7) 17 long p.1 in
+    let recs = records_sound strips_kind masks_bytes (ValidMasks (byte_at bs 6)) read_masks bs small (masks_decode bs small head.few_facts) (num16 bs 7) 17 long p.1 in
     let two = be32 (num32 bs 9) ++ be32 (num32 bs 13) in
     let headed : two ++ drop 17 bs ≡ drop 9 bs =
     append_assoc (be32 (num32 bs 9)) (be32 (num32 bs 13)) (drop 17 bs) ∙ ap (λ l. be32 (num32 bs 9) ++ l) (read32 bs 13 small (omega arith)) ∙ read32 bs 9 small (omega arith) in (
@@ -173,7 +173,7 @@ strips_complete bs c small v e =
     let goal : num32 bs 13 ≡ c.goal = written32 bs 13 c.goal recs (narrow _ _ v.goal v.few_facts) thirteen in
     let facts = o.size in
     let each = subst (λ f. AllByRecursion (ValidAction (ValidMasks f)) c.actions) (sym facts) v.each in
-    let told = records-complete strips_kind masks_bytes (ValidMasks (byte_at bs 6)) read_masks bs small (masks_decode bs small (omega (arith, facts, v.few_facts))) c.actions 17 (omega (arith, long)) each seventeen in
+    let told = records_complete strips_kind masks_bytes (ValidMasks (byte_at bs 6)) read_masks bs small (masks_decode bs small (omega (arith, facts, v.few_facts))) c.actions 17 (omega (arith, long)) each seventeen in
     let records = records_checks strips_kind bs (num16 bs 7) 17 in
     let opening : OpeningPassed strips_kind bs = record {
       long = omega (arith, long);
@@ -191,7 +191,7 @@ strips_complete bs c small v e =
       start = rw (start, facts) v.start;
       goal = rw (goal, facts) v.goal;
     } in (
-      opening-pass strips_kind bs (strips_head_checks bs ++ records) opening
+      opening_pass strips_kind bs (strips_head_checks bs ++ records) opening
           ∙ head_pass bs records head
           ∙ ap (λ n. first_failing (records_checks strips_kind bs n 17)) o.count
           ∙ told.0,

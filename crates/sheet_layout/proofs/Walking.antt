@@ -3,7 +3,7 @@ use Rattle.std.proofs.Common.{◌≡◌, ℕ, zero, suc, ◌+◌, ◌-◌, ◌<�
 use Rattle.std.proofs.lemmas.List.{length-map, length-take-le, length-drop, map-append, drop-drop, drop_more, set_at, take_at, take_all, take-map}
 use Rattle.planning.specs.Checks.{first_failing}
 use Rattle.sheet_layout.specs.Frame.{KindOf, record_end, record_place, records_checks}
-use Rattle.sheet_layout.proofs.Framing.{Passed, action_at, actions_from, actions_on, records_on, record-passed}
+use Rattle.sheet_layout.proofs.Framing.{Passed, action_at, actions_from, actions_on, records_on, record_passed}
 
 -- after i of n records, the next stands at p
 pub record Walk {C : Type 0} (k : KindOf) (read : List ℕ → ℕ → C) (bs : List ℕ) (first n i p : ℕ) : Type 0 where
@@ -22,18 +22,18 @@ module _ {C : Type 0} (k : KindOf) (read : List ℕ → ℕ → C) (bs : List �
       }
 
   module _ (i p : ℕ) (w : Walk k read bs first n i p) (more : i < n) where
-    pub walk-passed : Passed k bs p × (first_failing (records_checks k bs (n - (i + 1)) (record_end bs p)) ≡ None)
-    walk-passed =
-        record-passed k bs p (records_checks k bs (n - (i + 1)) (record_end bs p)) (ap first_failing (sym (records_on k bs n i p more)) ∙ w.passes)
+    pub walk_passed : Passed k bs p × (first_failing (records_checks k bs (n - (i + 1)) (record_end bs p)) ≡ None)
+    walk_passed =
+        record_passed k bs p (records_checks k bs (n - (i + 1)) (record_end bs p)) (ap first_failing (sym (records_on k bs n i p more)) ∙ w.passes)
 
-    pub walk-item : drop i (actions_from k read bs n first) ≡ action_at k read bs p ∷ actions_from k read bs (n - (i + 1)) (record_end bs p)
-    walk-item = sym w.ahead ∙ actions_on k read bs n i p more
+    pub walk_item : drop i (actions_from k read bs n first) ≡ action_at k read bs p ∷ actions_from k read bs (n - (i + 1)) (record_end bs p)
+    walk_item = sym w.ahead ∙ actions_on k read bs n i p more
 
-    pub walk-next : Walk k read bs first n (i + 1) (record_end bs p)
-    walk-next = record {
-      inside = walk-passed.0.frame.inside;
-      passes = walk-passed.1;
-      ahead = ap (drop 1) (sym walk-item) ∙ drop-drop 1 i (actions_from k read bs n first);
+    pub walk_next : Walk k read bs first n (i + 1) (record_end bs p)
+    walk_next = record {
+      inside = walk_passed.0.frame.inside;
+      passes = walk_passed.1;
+      ahead = ap (drop 1) (sym walk_item) ∙ drop-drop 1 i (actions_from k read bs n first);
     }
 
 -- one record further
@@ -45,11 +45,11 @@ place_next bs i p = ap (λ n. record_place bs n p) (add-one i) ∙ go i p
     go (suc n) q = go n (record_end bs q)
 
 module _ {C : Type 0} (k : KindOf) (read : List ℕ → ℕ → C) (bs : List ℕ) (first n : ℕ) (start : Walk k read bs first n 0 first) where
-  pub walk-to : (i : ℕ) → i ≤ n → Walk k read bs first n i (record_place bs i first)
-  walk-to zero le = start
-  walk-to (suc i) le =
-      let before = walk-to i (omega arith) in
-      let after = walk-next k read bs first n i (record_place bs i first) before le in
+  pub walk_to : (i : ℕ) → i ≤ n → Walk k read bs first n i (record_place bs i first)
+  walk_to zero le = start
+  walk_to (suc i) le =
+      let before = walk_to i (omega arith) in
+      let after = walk_next k read bs first n i (record_place bs i first) before le in
       subst₂ (Walk k read bs first n) (add-one i) (sym (place_next bs i first) ∙ ap (λ m. record_place bs m first) (add-one i)) after
 
 -- the first i entries of a table are those of a list, the rest is as it was
@@ -60,8 +60,8 @@ module _ {A X : Type 0} (f : A → X) (all : List A) (old : List X) where
   pub copy_start : (table : List X) → table ≡ old → Copied f all old 0 table
   copy_start table e = e
 
-  pub copy-next : (i : ℕ) (table : List X) (x : X) (y : A) (ys : List A) → Copied f all old i table → i < length old → drop i all ≡ y ∷ ys → x ≡ f y → Copied f all old (i + 1) (set table i x)
-  copy-next i table x y ys c room at is =
+  pub copy_next : (i : ℕ) (table : List X) (x : X) (y : A) (ys : List A) → Copied f all old i table → i < length old → drop i all ≡ y ∷ ys → x ≡ f y → Copied f all old (i + 1) (set table i x)
+  copy_next i table x y ys c room at is =
       let front = take i all in
       let whole : all ≡ front ++ (y ∷ ys) = sym (take-append-drop i all) ∙ ap (λ l. front ++ l) at in
       let left : length all - i ≡ suc (length ys) = sym (length-drop i all) ∙ ap length at in
@@ -77,8 +77,8 @@ module _ {A X : Type 0} (f : A → X) (all : List A) (old : List X) where
       ∙ sym (append_assoc (map f front) (f y ∷ []) (drop (i + 1) old))
       ∙ ap (λ l. l ++ drop (i + 1) old) (sym grown)
 
-  pub copy-end : (xs : List A) (i : ℕ) (table : List X) → all ≡ xs → i ≡ length all → Copied f all old i table → table ≡ map f xs ++ drop (length xs) old
-  copy-end xs i table same e c =
+  pub copy_end : (xs : List A) (i : ℕ) (table : List X) → all ≡ xs → i ≡ length all → Copied f all old i table → table ≡ map f xs ++ drop (length xs) old
+  copy_end xs i table same e c =
       c
       ∙ ap (λ j. take j (map f all) ++ drop j old) e
       ∙ ap (λ l. take (length l) (map f l) ++ drop (length l) old) same

@@ -70,15 +70,15 @@ module _ (h : FiniteDomainHead) (actions : List FiniteDomainAction) (prices : Li
       (nth_front (map entered c.actions) ha.0 a (omega (arith, length-map c.actions entered)) i)
       (nth_front (map priced c.actions) hp.0 a (omega (arith, length-map c.actions priced)) i))
 
-  goal-same : (s : ℕ) → (ltb s (product c.counts) && holds (padded c.goal) (decode c.counts s)) ≡ (finite_domain_task_of c).goal s
-  goal-same s = ap (λ b. ltb s (product c.counts) && b) (holds_front c.goal _ (decode c.counts s) (as_long (λ v n. (v < n) ⊎ (v ≡ 255)) c.goal c.counts valid.goal ∙ sym (decode-length c.counts s)))
+  goal_same : (s : ℕ) → (ltb s (product c.counts) && holds (padded c.goal) (decode c.counts s)) ≡ (finite_domain_task_of c).goal s
+  goal_same s = ap (λ b. ltb s (product c.counts) && b) (holds_front c.goal _ (decode c.counts s) (as_long (λ v n. (v < n) ⊎ (v ≡ 255)) c.goal c.counts valid.goal ∙ sym (decode-length c.counts s)))
 
-  pub finite-domain-described : finite_domain_over (counts_of h) h.actions h.goal actions prices ≡ finite_domain_task_of c
-  finite-domain-described =
+  pub finite_domain_described : finite_domain_over (counts_of h) h.actions h.goal actions prices ≡ finite_domain_task_of c
+  finite_domain_described =
       (λ i. finite_domain_over (counts_same i) (head.actions i) (head.goal i) (ha.1 i) (hp.1 i))
       ∙ (λ i. record {
         states = product c.counts;
         actions = length c.actions;
         transition = λ s a. step_same s a i;
-        goal = λ s. goal-same s i;
+        goal = λ s. goal_same s i;
       })

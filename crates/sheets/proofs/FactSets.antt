@@ -130,29 +130,29 @@ contains n p s h =
     (and_parts (facts_of s i) (facts_of p i) (sym (facts_and s p i) ∙ ap (λ x. facts_of x i) (eqb-true (bit_and s p) p e) ∙ holds)).0))
     (λ e. eq-eqb (bit_and s p) p
     (
-    sym (set_of_lem n (bit_and s p) (le-lt (and_le_r s p) h))
+    sym (set_of_lem n (bit_and s p) (le_lt (and_le_r s p) h))
     ∙ set_same n (facts_of (bit_and s p)) (facts_of p) (λ i lt. facts_and s p i ∙ absorbed (facts_of p i) (facts_of s i) (subset_true n (facts_of p) (facts_of s) e i lt))
     ∙ set_of_lem n p h
     ))
   where
-    le-lt : {a b c : ℕ} → a ≤ b → b < c → a < c
-    le-lt x y = omega arith
+    le_lt : {a b c : ℕ} → a ≤ b → b < c → a < c
+    le_lt x y = omega arith
 
 -- what is left of a state without the deleted facts, with the added ones
 pub applied-set : (n s d a : ℕ) → n ≤ 32 → s < 2 ^ n → d < 2 ^ n → a < 2 ^ n → bit_or (bit_and s (2 ^ 32 - 1 - d)) a ≡ set_of n (applied (facts_of s) (facts_of d) (facts_of a))
 applied-set n s d a few hs hd ha =
-    let wide : d < 2 ^ 32 = lt-le hd (pow_mono few) in
+    let wide : d < 2 ^ 32 = lt_le hd (pow_mono few) in
     let kept = bit_and s (2 ^ 32 - 1 - d) in
-    let low : kept < 2 ^ n = le-lt (and_le_l s (2 ^ 32 - 1 - d)) hs in
+    let low : kept < 2 ^ n = le_lt (and_le_l s (2 ^ 32 - 1 - d)) hs in
     sym (set_of_lem n (bit_or kept a) (or_lt n kept a low ha))
     ∙ set_same n (facts_of (bit_or kept a)) (applied (facts_of s) (facts_of d) (facts_of a)) (λ i lt.
     facts_or kept a i ∙ ap (λ b. b || facts_of a i) (facts_and s (2 ^ 32 - 1 - d) i ∙ ap (λ b. facts_of s i && b) (facts_not 32 d i wide (omega arith))))
   where
-    le-lt : {x y z : ℕ} → x ≤ y → y < z → x < z
-    le-lt f g = omega arith
+    le_lt : {x y z : ℕ} → x ≤ y → y < z → x < z
+    le_lt f g = omega arith
 
-    lt-le : {x y z : ℕ} → x < y → y ≤ z → x < z
-    lt-le f g = omega arith
+    lt_le : {x y z : ℕ} → x < y → y ≤ z → x < z
+    lt_le f g = omega arith
 
 pub set_below : (n : ℕ) (f : Facts) → set_of n f < 2 ^ n
 set_below zero f = omega arith

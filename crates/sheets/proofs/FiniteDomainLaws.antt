@@ -6,7 +6,7 @@ use Rattle.std.proofs.lemmas.Bool.{and_parts, ltb-true}
 use Rattle.planning.specs.declared.task.Transition.{Transition}
 use Rattle.planning.specs.Task.{TaskLaws}
 use Rattle.sheet_layout.specs.FiniteDomain.{ValidCount, product}
-use Rattle.sheet_layout.proofs.FiniteDomainHeads.{CountsPassed, counts-told, product_some}
+use Rattle.sheet_layout.proofs.FiniteDomainHeads.{CountsPassed, counts_told, product_some}
 use Rattle.sheets.specs.FiniteDomainTasks.{decode, applicable, successor, performed, names, counts_of, finite_domain_model}
 use Rattle.sheets.specs.declared.finite_domain.FiniteDomainAction.{FiniteDomainAction}
 use Rattle.sheets.specs.declared.finite_domain_task.FiniteDomainTask.{FiniteDomainTask}
@@ -16,7 +16,7 @@ use Rattle.sheets.proofs.StripsLaws.{guarded}
 
 -- a head that exists has passed the checks of its counts
 pub head_told : (h : FiniteDomainHead) → CountsPassed h.variables h.actions (counts_of h)
-head_told h = counts-told h.variables h.actions (counts_of h) (take h.variables h.start) (take h.variables h.goal) (none _ h.valid)
+head_told h = counts_told h.variables h.actions (counts_of h) (take h.variables h.start) (take h.variables h.goal) (none _ h.valid)
   where
     none : {X : Type 0} (o : Option X) → is_some o ≡ false → o ≡ None
     none None e = refl

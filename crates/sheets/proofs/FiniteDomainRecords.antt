@@ -6,10 +6,10 @@ use Rattle.planning.specs.Checks.{first_failing}
 use Rattle.sheet_layout.specs.FiniteDomain.{ValidAssignments, assignment_bytes, assignments_bytes, end_of_list, part, read_pairs, read_list, read_assignments, finite_domain_kind, finite_domain_checks}
 use Rattle.sheet_layout.specs.Frame.{framed, record_bytes, record_end, record_place}
 use Rattle.sheet_layout.specs.Numbers.{Bytes, byte_at, num16}
-use Rattle.sheet_layout.proofs.Assigning.{counts_of, part_length, pairs_count, pairs_long, pairs_laid, assignments-decode}
+use Rattle.sheet_layout.proofs.Assigning.{counts_of, part_length, pairs_count, pairs_long, pairs_laid, assignments_decode}
 use Rattle.sheet_layout.proofs.FiniteDomainSheets.{records_at, finite_domain_read, sheet_passed}
-use Rattle.sheet_layout.proofs.Framing.{action_at, actions_from, framed-from, places-sound}
-use Rattle.sheet_layout.proofs.Walking.{Walk, walk_start, walk-to, walk-passed, walk-item}
+use Rattle.sheet_layout.proofs.Framing.{action_at, actions_from, framed_from, places_sound}
+use Rattle.sheet_layout.proofs.Walking.{Walk, walk_start, walk_to, walk_passed, walk_item}
 use Rattle.sheets.specs.Records.{FiniteDomainAt, PartIs, FiniteDomainRecordOf}
 use Rattle.sheets.specs.declared.record.FiniteDomainRecord.{FiniteDomainRecord}
 use Rattle.sheets.specs.declared.record.Part.{Part}
@@ -36,16 +36,16 @@ module _ (bs : List ℕ) (small : Bytes bs) (ok : first_failing (finite_domain_c
   unfolding at
   walked =
       let h = sheet_passed bs ok in
-      walk-to finite_domain_kind read_assignments bs (records_at bs) (num16 bs 7) (walk_start finite_domain_kind read_assignments bs (records_at bs) (num16 bs 7) h.long h.records) number (omega arith)
+      walk_to finite_domain_kind read_assignments bs (records_at bs) (num16 bs 7) (walk_start finite_domain_kind read_assignments bs (records_at bs) (num16 bs 7) h.long h.records) number (omega arith)
 
-  pub fits-there : framed finite_domain_kind bs (record_place bs number (records_at bs)) ≡ true
+  pub fits_there : framed finite_domain_kind bs (record_place bs number (records_at bs)) ≡ true
   unfolding at
-  fits-there = framed-from finite_domain_kind bs at (walk-passed finite_domain_kind read_assignments bs (records_at bs) (num16 bs 7) number at walked below).0.frame
+  fits_there = framed_from finite_domain_kind bs at (walk_passed finite_domain_kind read_assignments bs (records_at bs) (num16 bs 7) number at walked below).0.frame
 
-  pub record-there : (r : FiniteDomainRecord) → FiniteDomainAt bs (record_place bs number (records_at bs)) r → FiniteDomainRecordOf bs (finite_domain_read bs) number r
+  pub record_there : (r : FiniteDomainRecord) → FiniteDomainAt bs (record_place bs number (records_at bs)) r → FiniteDomainRecordOf bs (finite_domain_read bs) number r
   unfolding at
-  record-there r h =
-      let frame = (walk-passed finite_domain_kind read_assignments bs (records_at bs) (num16 bs 7) number at walked below).0.frame in
+  record_there r h =
+      let frame = (walk_passed finite_domain_kind read_assignments bs (records_at bs) (num16 bs 7) number at walked below).0.frame in
       let passed = sheet_passed bs ok in
       let long = passed.long in
       let few = passed.head.few_variables in
@@ -70,9 +70,9 @@ module _ (bs : List ℕ) (small : Bytes bs) (ok : first_failing (finite_domain_c
       record {
         action = action_at finite_domain_kind read_assignments bs at;
         later = actions_from finite_domain_kind read_assignments bs (num16 bs 7 - (number + 1)) (record_end bs at);
-        numbered = walk-item finite_domain_kind read_assignments bs (records_at bs) (num16 bs 7) number at walked below;
+        numbered = walk_item finite_domain_kind read_assignments bs (records_at bs) (num16 bs 7) number at walked below;
         place = place
-            ∙ places-sound finite_domain_kind assignments_bytes (ValidAssignments (counts_of bs)) read_assignments bs small (assignments-decode bs (omega arith) few) number (num16 bs 7) (records_at bs) long (omega arith) passed.records
+            ∙ places_sound finite_domain_kind assignments_bytes (ValidAssignments (counts_of bs)) read_assignments bs small (assignments_decode bs (omega arith) few) number (num16 bs 7) (records_at bs) long (omega arith) passed.records
             ∙ ap (λ k. 9 + 3 * k + length (flat_map (record_bytes assignments_bytes) (take number (finite_domain_read bs).actions))) (sym counted);
         coins = h.coins;
         preconditions = part_is bs r.preconditions (at + 7) (r.place + 7) (2 * n) (flat_map assignment_bytes pre) h.preconditions_place (omega (arith, place)) h.preconditions pre-bytes pre-long;

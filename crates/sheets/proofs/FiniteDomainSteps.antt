@@ -4,7 +4,7 @@ use Rattle.std.specs.List.{AllByRecursion}
 use Rattle.std.proofs.lemmas.List.{drop_more, drop-drop, drop_all, get_or_past, at_drop_more, at_drop_all, map-id, drop-replicate}
 use Rattle.std.proofs.lemmas.Bool.{cases_lt, le-ltb}
 use Rattle.sheet_layout.specs.FiniteDomain.{ValidCount, product, value_or_any}
-use Rattle.sheet_layout.proofs.Walking.{Copied, copy-end}
+use Rattle.sheet_layout.proofs.Walking.{Copied, copy_end}
 use Rattle.sheets.specs.FiniteDomainReading.{padded}
 use Rattle.sheets.specs.FiniteDomainTasks.{encode, decode, InRange, holds, changed, names}
 use Rattle.sheets.proofs.FiniteDomainVerdicts.{padded_front}
@@ -76,7 +76,7 @@ decode_next ns i s rest h e = sym (ap (drop 1) (decode_on ns i s rest h e)) ∙ 
 
 -- what is copied whole is the list, and the rest as it was
 pub copied_whole : (xs old : List ℕ) (i : ℕ) (table : List ℕ) → i ≡ length xs → Copied {A = ℕ} (λ v. v) xs old i table → table ≡ xs ++ drop (length xs) old
-copied_whole xs old i table e c = copy-end (λ (v : ℕ). v) xs old xs i table refl e c ∙ ap (λ l. l ++ drop (length xs) old) (map-id xs)
+copied_whole xs old i table e c = copy_end (λ (v : ℕ). v) xs old xs i table refl e c ∙ ap (λ l. l ++ drop (length xs) old) (map-id xs)
 
 pub copied_padded : (xs : List ℕ) (i : ℕ) (table : List ℕ) → i ≡ length xs → Copied {A = ℕ} (λ v. v) xs (replicate 16 0) i table → table ≡ padded xs
 copied_padded xs i table e c = copied_whole xs (replicate 16 0) i table e c ∙ ap (λ l. xs ++ l) (drop-replicate (length xs) 16 0)
@@ -114,10 +114,10 @@ encode_none ns vs = at_drop_all (λ l. encode l vs) ns (length ns) (omega arith)
 
 -- the values at the front of the sixteen
 pub front : (ns values : List ℕ) (s : ℕ) → values ≡ padded (decode ns s) → take (length ns - 0) values ≡ decode ns s
-front ns values s e = (λ i. take (zero-less i) (e i)) ∙ padded_front (decode ns s) (length ns) (decode-length ns s)
+front ns values s e = (λ i. take (zero_less i) (e i)) ∙ padded_front (decode ns s) (length ns) (decode-length ns s)
   where
-    zero-less : length ns - 0 ≡ length ns
-    zero-less = omega arith
+    zero_less : length ns - 0 ≡ length ns
+    zero_less = omega arith
 
 -- and after the effects
 pub moved : (ns values after effects : List ℕ) (s : ℕ) → values ≡ padded (decode ns s) → after ≡ changed effects values → take (length ns - 0) after ≡ changed effects (decode ns s)

@@ -10,13 +10,13 @@ use Rattle.sheet_layout.specs.FiniteDomain.{FiniteDomainContent, product, finite
 use Rattle.sheet_layout.specs.Frame.{opening_checks, records_checks}
 use Rattle.sheet_layout.specs.Numbers.{Bytes, byte_at, num16}
 use Rattle.sheet_layout.proofs.Assigning.{counts_of, part_length, part_at}
-use Rattle.sheet_layout.proofs.FiniteDomainHeads.{size-passed}
+use Rattle.sheet_layout.proofs.FiniteDomainHeads.{size_passed}
 use Rattle.sheet_layout.proofs.FiniteDomainSheets.{start_of, goal_of, records_at, finite_domain_read, variables_head, sheet_passed, finite_domain_sound, finite_domain_complete}
 use Rattle.sheet_layout.proofs.Framing.{actions_count}
-use Rattle.sheet_layout.proofs.Opening.{opening-passed}
+use Rattle.sheet_layout.proofs.Opening.{opening_passed}
 use Rattle.sheets.specs.FiniteDomainReading.{FiniteDomainSheet, FiniteDomainHeadOf, FiniteDomainHeadAt, FiniteDomainChecked, FiniteDomainUnique, padded}
 use Rattle.sheets.specs.declared.head.FiniteDomainHead.{FiniteDomainHead}
-use Rattle.sheets.proofs.LastChecks.{only_one, none-fits}
+use Rattle.sheets.proofs.LastChecks.{only_one, none_fits}
 
 -- sixteen numbers that are those of a part, and 0 behind it
 pub record Sixteen (bs : List ℕ) (p n : ℕ) (xs : List ℕ) : Type 0 where
@@ -59,9 +59,9 @@ pub record Lists (bs ns vs gs : List ℕ) : Type 0 where
   pub long : records_at bs ≤ length bs
 
 module _ (bs : List ℕ) (opened : first_failing (opening_checks finite_domain_kind bs) ≡ None) (ns vs gs : List ℕ) where
-  lists-are : Copied bs (byte_at bs 6) ns vs gs → 1 ≤ byte_at bs 6 → byte_at bs 6 ≤ 16 → Lists bs ns vs gs
-  lists-are copied some few =
-      let opening = (opening-passed finite_domain_kind bs [] opened).0 in
+  lists_are : Copied bs (byte_at bs 6) ns vs gs → 1 ≤ byte_at bs 6 → byte_at bs 6 ≤ 16 → Lists bs ns vs gs
+  lists_are copied some few =
+      let opening = (opening_passed finite_domain_kind bs [] opened).0 in
       let long : records_at bs ≤ length bs = omega (arith, opening.head, variables_head bs opening.kind some few) in
       record {
         counts = sixteen_is bs 9 (byte_at bs 6) ns copied.counts few (omega arith);
@@ -71,13 +71,13 @@ module _ (bs : List ℕ) (opened : first_failing (opening_checks finite_domain_k
       }
 
   -- a head of sixteens, checked, is the sheet's head, checked
-  here-same : Copied bs (byte_at bs 6) ns vs gs → first_failing (finite_domain_head_checks bs) ≡ first_failing (finite_domain_head (byte_at bs 6) (num16 bs 7) (take (byte_at bs 6) ns) (take (byte_at bs 6) vs) (take (byte_at bs 6) gs))
-  here-same copied =
+  here_same : Copied bs (byte_at bs 6) ns vs gs → first_failing (finite_domain_head_checks bs) ≡ first_failing (finite_domain_head (byte_at bs 6) (num16 bs 7) (take (byte_at bs 6) ns) (take (byte_at bs 6) vs) (take (byte_at bs 6) gs))
+  here_same copied =
       let d = byte_at bs 6 in
       ⊎_elim
       (λ (ok : (leb 1 d && leb d 16) ≡ true).
       let size = and_parts (leb 1 d) (leb d 16) ok in
-      let are = lists-are copied (leb-true 1 d size.0) (leb-true d 16 size.1) in
+      let are = lists_are copied (leb-true 1 d size.0) (leb-true d 16 size.1) in
       let long = are.long in
       let a : take d ns ≡ counts_of bs = ap (take d) are.counts ∙ padded_front (counts_of bs) d (part_length bs 9 d (omega arith)) in
       let b : take d vs ≡ start_of bs = ap (take d) are.start ∙ padded_front (start_of bs) d (part_length bs (9 + d) d (omega arith)) in
@@ -87,19 +87,19 @@ module _ (bs : List ℕ) (opened : first_failing (opening_checks finite_domain_k
       (cases_Bool (leb 1 d && leb d 16))
 
   module _ (d m : ℕ) (size : d ≡ byte_at bs 6) (count : m ≡ num16 bs 7) (copied : Copied bs d ns vs gs) where
-    pub head-same : first_failing (finite_domain_head_checks bs) ≡ first_failing (finite_domain_head d m (take d ns) (take d vs) (take d gs))
-    head-same =
-        here-same (subst (λ n. Copied bs n ns vs gs) size copied)
+    pub head_same : first_failing (finite_domain_head_checks bs) ≡ first_failing (finite_domain_head d m (take d ns) (take d vs) (take d gs))
+    head_same =
+        here_same (subst (λ n. Copied bs n ns vs gs) size copied)
         ∙ sym (λ i. first_failing (finite_domain_head (size i) (count i) (take (size i) ns) (take (size i) vs) (take (size i) gs)))
 
     -- once the head has passed, its lists are the sheet's, and only the records are left
     pub head_done : first_failing (finite_domain_head d m (take d ns) (take d vs) (take d gs)) ≡ None → Lists bs ns vs gs × (first_failing (finite_domain_checks bs) ≡ first_failing (records_checks finite_domain_kind bs m (9 + 3 * d)))
     head_done h =
-        let in-range = size-passed d m (take d ns) (take d vs) (take d gs) h in
+        let in-range = size_passed d m (take d ns) (take d vs) (take d gs) h in
         let records = records_checks finite_domain_kind bs (num16 bs 7) (9 + 3 * byte_at bs 6) in (
-          lists-are (subst (λ n. Copied bs n ns vs gs) size copied) (omega (arith, size, in-range.0)) (omega (arith, size, in-range.1)),
+          lists_are (subst (λ n. Copied bs n ns vs gs) size copied) (omega (arith, size, in-range.0)) (omega (arith, size, in-range.1)),
           after (opening_checks finite_domain_kind bs) (finite_domain_head_checks bs ++ records) opened
-              ∙ after (finite_domain_head_checks bs) records (head-same ∙ h)
+              ∙ after (finite_domain_head_checks bs) records (head_same ∙ h)
               ∙ sym (λ i. first_failing (records_checks finite_domain_kind bs (count i) (9 + 3 * size i))),
         )
 
@@ -128,7 +128,7 @@ pub one_content : (bs : List ℕ) → Bytes bs → FiniteDomainUnique bs
 one_content bs small = only_one (finite_domain_checks bs) (FiniteDomainSheet bs) (finite_domain_read bs) (complete bs small)
 
 pub no_content : (bs : List ℕ) (e : Refusal) → Bytes bs → first_failing (finite_domain_checks bs) ≡ Some e → (c : FiniteDomainContent) → FiniteDomainSheet bs c → ⊥
-no_content bs e small = none-fits (finite_domain_checks bs) (FiniteDomainSheet bs) (finite_domain_read bs) (complete bs small) e
+no_content bs e small = none_fits (finite_domain_checks bs) (FiniteDomainSheet bs) (finite_domain_read bs) (complete bs small) e
 
 pub verdict : (bs : List ℕ) (r : Result FiniteDomainHead Refusal) → Bytes bs → Answers (first_failing (finite_domain_checks bs)) (FiniteDomainHeadAt bs) r → FiniteDomainChecked bs r
 verdict bs (Ok h) small a = (finite_domain_read bs, passes bs small a.0, head_of bs h a.0 a.1)

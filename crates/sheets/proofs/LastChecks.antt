@@ -29,8 +29,8 @@ module _ {C : Type 0} (cs : List Check) (Is : C → Type 0) (read : C) (complete
   pub only_one : (c d : C) → Is c → Is d → c ≡ d
   only_one c d hc hd = sym (complete c hc).1 ∙ (complete d hd).1
 
-  pub none-fits : (e : Refusal) → first_failing cs ≡ Some e → (c : C) → Is c → ⊥
-  none-fits e fails c h =
+  pub none_fits : (e : Refusal) → first_failing cs ≡ Some e → (c : C) → Is c → ⊥
+  none_fits e fails c h =
       let none = (complete c h).0 in
       let z : ◌≡◌ {A = ℕ} 0 1 = cc (fails, none) in
       omega arith

@@ -13,8 +13,8 @@ pub record Named (n : ℕ) (x : StripsAction) : Type 0 where
   pub deletes : x.deletes < 2 ^ n
 
 module _ (n s : ℕ) (x : StripsAction) (coins : ℕ) (named : Named n x) where
-  is-named : names n x ≡ true
-  is-named = and_from _ _ (lt-ltb _ _ named.preconditions) (and_from _ _ (lt-ltb _ _ named.adds) (lt-ltb _ _ named.deletes))
+  is_named : names n x ≡ true
+  is_named = and_from _ _ (lt-ltb _ _ named.preconditions) (and_from _ _ (lt-ltb _ _ named.adds) (lt-ltb _ _ named.deletes))
 
   pub inapplicable : (bit_and s x.preconditions ≡ x.preconditions → ⊥) → None ≡ cond (applicable n s x) (Some (successor n s x coins)) None
   inapplicable lacks =
@@ -23,7 +23,7 @@ module _ (n s : ℕ) (x : StripsAction) (coins : ℕ) (named : Named n x) where
   pub performs : (m : ℕ) → n ≤ 16 → s < 2 ^ n → bit_and s x.preconditions ≡ x.preconditions → m ≡ min coins 1000000
       → Some (record { state = bit_or (bit_and s (4294967295 - x.deletes)) x.adds; coins = m }) ≡ cond (applicable n s x) (Some (successor n s x coins)) None
   performs m few low has is =
-      let ready : applicable n s x ≡ true = and_from (names n x) _ is-named (sym (contains n x.preconditions s named.preconditions) ∙ eq-eqb _ _ has) in
+      let ready : applicable n s x ≡ true = and_from (names n x) _ is_named (sym (contains n x.preconditions s named.preconditions) ∙ eq-eqb _ _ has) in
       let led = applied-set n s x.deletes x.adds (omega arith) low named.deletes named.adds in
       (λ i. Some (record { state = led i; coins = is i })) ∙ sym (cond-true _ _ _ ready)
 

@@ -5,15 +5,15 @@ use Rattle.planning.specs.Checks.{first_failing}
 use Rattle.sheet_layout.specs.Frame.{framed, record_end, record_place}
 use Rattle.sheet_layout.specs.Numbers.{Bytes, byte_at, num16, num32}
 use Rattle.sheet_layout.specs.Strips.{StripsContent, ValidMasks, masks_bytes, strips_kind, strips_checks}
-use Rattle.sheet_layout.proofs.Framing.{action_at, actions_from, actions_count, framed-from, places-sound}
+use Rattle.sheet_layout.proofs.Framing.{action_at, actions_from, actions_count, framed_from, places_sound}
 use Rattle.sheet_layout.proofs.StripsSheets.{read_masks, strips_read, masks_decode, to_records, strips_sound, strips_complete}
-use Rattle.sheet_layout.proofs.Walking.{Walk, walk_start, walk-to, walk-passed, walk-item}
+use Rattle.sheet_layout.proofs.Walking.{Walk, walk_start, walk_to, walk_passed, walk_item}
 use Rattle.planning.specs.Outcomes.{Answers}
 use Rattle.sheets.specs.Reading.{Sheet, HeadAt, HeadOf, StripsChecked, Unique}
 use Rattle.sheets.specs.Records.{StripsAt, StripsRecordOf}
 use Rattle.sheets.specs.declared.head.StripsHead.{StripsHead}
 use Rattle.sheets.specs.declared.record.StripsRecord.{StripsRecord}
-use Rattle.sheets.proofs.LastChecks.{only_one, none-fits}
+use Rattle.sheets.proofs.LastChecks.{only_one, none_fits}
 
 -- a sheet that passes is that of what is read from it
 pub passes : (bs : List ℕ) → Bytes bs → first_failing (strips_checks bs) ≡ None → Sheet bs (strips_read bs)
@@ -29,7 +29,7 @@ pub one_content : (bs : List ℕ) → Bytes bs → Unique bs
 one_content bs small = only_one (strips_checks bs) (Sheet bs) (strips_read bs) (complete bs small)
 
 pub no_content : (bs : List ℕ) (e : Refusal) → Bytes bs → first_failing (strips_checks bs) ≡ Some e → (c : StripsContent) → Sheet bs c → ⊥
-no_content bs e small = none-fits (strips_checks bs) (Sheet bs) (strips_read bs) (complete bs small) e
+no_content bs e small = none_fits (strips_checks bs) (Sheet bs) (strips_read bs) (complete bs small) e
 
 pub verdict : (bs : List ℕ) (r : Result StripsHead Refusal) → Bytes bs → Answers (first_failing (strips_checks bs)) (HeadAt bs) r → StripsChecked bs r
 verdict bs (Ok h) small a = (strips_read bs, passes bs small a.0, head_of bs h a.1)
@@ -44,16 +44,16 @@ module _ (bs : List ℕ) (small : Bytes bs) (ok : first_failing (strips_checks b
   unfolding at
   walked =
       let h = to_records bs ok in
-      walk-to strips_kind read_masks bs 17 (num16 bs 7) (walk_start strips_kind read_masks bs 17 (num16 bs 7) h.0 h.1) number (omega arith)
+      walk_to strips_kind read_masks bs 17 (num16 bs 7) (walk_start strips_kind read_masks bs 17 (num16 bs 7) h.0 h.1) number (omega arith)
 
-  pub fits-there : framed strips_kind bs (record_place bs number 17) ≡ true
+  pub fits_there : framed strips_kind bs (record_place bs number 17) ≡ true
   unfolding at
-  fits-there = framed-from strips_kind bs at (walk-passed strips_kind read_masks bs 17 (num16 bs 7) number at walked below).0.frame
+  fits_there = framed_from strips_kind bs at (walk_passed strips_kind read_masks bs 17 (num16 bs 7) number at walked below).0.frame
 
-  pub record-there : (r : StripsRecord) → StripsAt bs (record_place bs number 17) r → StripsRecordOf bs (strips_read bs) number r
+  pub record_there : (r : StripsRecord) → StripsAt bs (record_place bs number 17) r → StripsRecordOf bs (strips_read bs) number r
   unfolding at
-  record-there r h =
-      let frame = (walk-passed strips_kind read_masks bs 17 (num16 bs 7) number at walked below).0.frame in
+  record_there r h =
+      let frame = (walk_passed strips_kind read_masks bs 17 (num16 bs 7) number at walked below).0.frame in
       let parts = to_records bs ok in
       let few = (strips_sound bs small ok).0.few_facts in
       let q : at + 6 + 12 ≡ at + 18 = omega arith in
@@ -62,8 +62,8 @@ module _ (bs : List ℕ) (small : Bytes bs) (ok : first_failing (strips_checks b
       record {
         action = action_at strips_kind read_masks bs at;
         later = actions_from strips_kind read_masks bs (num16 bs 7 - (number + 1)) (record_end bs at);
-        numbered = walk-item strips_kind read_masks bs 17 (num16 bs 7) number at walked below;
-        place = h.place ∙ places-sound strips_kind masks_bytes (ValidMasks (byte_at bs 6)) read_masks bs small (masks_decode bs small few) number (num16 bs 7) 17 parts.0 (omega arith) parts.1;
+        numbered = walk_item strips_kind read_masks bs 17 (num16 bs 7) number at walked below;
+        place = h.place ∙ places_sound strips_kind masks_bytes (ValidMasks (byte_at bs 6)) read_masks bs small (masks_decode bs small few) number (num16 bs 7) 17 parts.0 (omega arith) parts.1;
         coins = h.coins;
         preconditions = (h.preconditions.0 ∙ ap (λ n. n + 6) (sym h.place), h.preconditions.1);
         adds = (h.adds.0 ∙ ap (λ n. n + 10) (sym h.place), h.adds.1 ∙ ap (num32 bs) (omega arith));

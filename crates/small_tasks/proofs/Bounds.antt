@@ -53,18 +53,18 @@ module _ {C : Type 0} (a : Algebra C) where
   ends true None = false
   ends true (Some x) = not (a.before a.zero x)
 
-  not-true : (b : Bool) → not b ≡ true → b ≡ false
-  not-true true e = cc
-  not-true false e = refl
+  not_true : (b : Bool) → not b ≡ true → b ≡ false
+  not_true true e = cc
+  not_true false e = refl
 
-  falls-to : (p : Option C) (y : C) (coins : ℕ) → falls p (Some y) coins ≡ true → (x : C) × (p ≡ Some x) × (a.before (a.plus (a.charge coins) y) x ≡ false)
-  falls-to None y coins e = absurd (let z : ◌≡◌ {A = ℕ} 0 1 = cc in omega arith)
-  falls-to (Some x) y coins e = (x, refl, not-true _ e)
+  falls_to : (p : Option C) (y : C) (coins : ℕ) → falls p (Some y) coins ≡ true → (x : C) × (p ≡ Some x) × (a.before (a.plus (a.charge coins) y) x ≡ false)
+  falls_to None y coins e = absurd (let z : ◌≡◌ {A = ℕ} 0 1 = cc in omega arith)
+  falls_to (Some x) y coins e = (x, refl, not_true _ e)
 
   ends_at : CostLaws a → (g : Bool) (p : Option C) → ends g p ≡ true → g ≡ true → p ≡ Some a.zero
   ends_at laws false p e f = absurd (let z : ◌≡◌ {A = ℕ} 0 1 = cc in omega arith)
   ends_at laws true None e f = absurd (let z : ◌≡◌ {A = ℕ} 0 1 = cc in omega arith)
-  ends_at laws true (Some x) e f = ap Some (laws.total x a.zero (laws.zero_first x) (not-true _ e))
+  ends_at laws true (Some x) e f = ap Some (laws.total x a.zero (laws.zero_first x) (not_true _ e))
 
 module _ {C : Type 0} (a : Algebra C) (laws : CostLaws a) (facts goal : ℕ) (rows : List Priced) (h : Estimates C) where
   abbrev t : Model
@@ -86,7 +86,7 @@ module _ {C : Type 0} (a : Algebra C) (laws : CostLaws a) (facts goal : ℕ) (ro
       go true low (Some x) at f =
           let kept = each_nth rows (λ x. keeps a h p (led facts p (Some x))) (here e p low).0 action x at in
           let one : falls a (h p) (h to.state) to.coins ≡ true = ap (keeps a h p) (sym f) ∙ kept in
-          falls-to a (h p) y to.coins (ap (λ o. falls a (h p) o to.coins) (sym there) ∙ one)
+          falls_to a (h p) y to.coins (ap (λ o. falls a (h p) o to.coins) (sym there) ∙ one)
 
   -- a table that passes is a lower bound for every solution
   pub bounds : checked ≡ true → Admissible t a h

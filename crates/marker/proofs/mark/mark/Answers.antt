@@ -8,7 +8,7 @@ use Rattle.marker.specs.declared.marking.Marking.{Marking}
 use Rattle.marker.specs.Calls.{numbers_of, AdvanceAnswers}
 use Rattle.marker.specs.Refusals.{advance_checks}
 use Rattle.marker.proofs.Passing.{start_room, advance_passes}
-use Rattle.marker.proofs.Whole.{advance-falls, going_start, going_on, going_end}
+use Rattle.marker.proofs.Whole.{advance_falls, going_start, going_on, going_end}
 use Rattle.marker.proofs.mark.mark.Given.{Over}
 use Rattle.marker.proofs.mark.mark.Goals as goal
 use Rattle.marker.proofs.mark.mark.Goals.{In-Open}
@@ -55,7 +55,7 @@ loop-told-smaller g c =
     let inv = c.loop-told.invariant in
     let told = passing g (goal.at.loop-told-smaller g c).In-Open c.advance.new.self c.advance.new.list c.advance.new.table (Ok c.in_ok-told-2.told) c.in_ok-told-2.ensures.answers in
     let opened = sym inv.0.0 ∙ c.in-Open.is in
-    advance-falls _ _ _ _ _ _ _ (told.1 inv.2) (omega arith) opened (c.loop-told.marking.unspent opened)
+    advance_falls _ _ _ _ _ _ _ (told.1 inv.2) (omega arith) opened (c.loop-told.marking.unspent opened)
 
 pub loop-told-preserved : goal.loop-told-preserved
 loop-told-preserved g c =

@@ -1,6 +1,6 @@
 use Rattle.std.proofs.Common.{sym, refl, ◌∙◌, subst, arith}
 use Rattle.planning.specs.Search.{Stopped, still}
-use Rattle.planning.proofs.Steps.{runs-more}
+use Rattle.planning.proofs.Steps.{runs_more}
 use Rattle.marker.specs.Calls.{configuration_of}
 use Rattle.marker.proofs.search.run.Goals as goal
 
@@ -35,7 +35,7 @@ returns-in_default g c =
     let inv = c.loop-made.invariant in
     let told = c.in-Ok.ensures in
     record {
-      ran = λ o. record { made = _; runs = runs-more (inv.1 o) inv.0 (told.turned (inv.2 o)); within = omega (arith, c.loop-made-test.true); all = λ e. absurd (c.in_default.not-Open e) };
+      ran = λ o. record { made = _; runs = runs_more (inv.1 o) inv.0 (told.turned (inv.2 o)); within = omega (arith, c.loop-made-test.true); all = λ e. absurd (c.in_default.not-Open e) };
       ordered = λ o. told.ordered (inv.2 o);
       room = told.room ∙ inv.3;
     }
@@ -44,7 +44,7 @@ pub loop-made-preserved : goal.loop-made-preserved
 loop-made-preserved g c =
     let inv = c.loop-made.invariant in
     let told = c.in-Ok.ensures in
-    (c.in-Open.is, λ o. runs-more (inv.1 o) inv.0 (told.turned (inv.2 o)), λ o. told.ordered (inv.2 o), told.room ∙ inv.3)
+    (c.in-Open.is, λ o. runs_more (inv.1 o) inv.0 (told.turned (inv.2 o)), λ o. told.ordered (inv.2 o), told.room ∙ inv.3)
 
 pub returns : goal.returns
 returns g c =

@@ -4,7 +4,7 @@ use Rattle.sheet_layout.specs.FiniteDomain.{finite_domain_kind, read_assignments
 use Rattle.sheet_layout.specs.Numbers.{Bytes, num16}
 use Rattle.sheet_layout.proofs.FiniteDomainSheets.{records_at, sheet_passed, finite_domain_complete}
 use Rattle.sheet_layout.proofs.Framing.{Passed, actions_from, actions_count}
-use Rattle.sheet_layout.proofs.Walking.{Walk, walk_start, walk-passed, walk-item, walk-next, copy-next, copy-end}
+use Rattle.sheet_layout.proofs.Walking.{Walk, walk_start, walk_passed, walk_item, walk_next, copy_next, copy_end}
 use Rattle.sheets.specs.FiniteDomainReading.{entered}
 use Rattle.sheets.specs.Reading.{priced}
 use Rattle.sheets.proofs.finite_domain.fill.Goals as goal
@@ -23,7 +23,7 @@ loop-i-init c =
 
 -- the record at hand has passed
 passed_here : (bs : List ℕ) (n i p : ℕ) → Walk finite_domain_kind read_assignments bs (records_at bs) n i p → i < n → Passed finite_domain_kind bs p
-passed_here bs n i p w more = (walk-passed finite_domain_kind read_assignments bs (records_at bs) n i p w more).0
+passed_here bs n i p w more = (walk_passed finite_domain_kind read_assignments bs (records_at bs) n i p w more).0
 
 pub lists_at-requires : goal.lists_at-requires
 lists_at-requires c =
@@ -56,10 +56,10 @@ loop-i-preserved c =
     let more = c.loop-i-test.true in
     let first = records_at bs in
     let all = actions_from finite_domain_kind read_assignments bs n first in
-    let item = walk-item finite_domain_kind read_assignments bs first n i p w more in (
-      subst (λ m. Walk finite_domain_kind read_assignments bs first n (i + 1) (p + 2 + m)) (sym c.u16_at.ensures) (walk-next finite_domain_kind read_assignments bs first n i p w more),
-      copy-next entered all c.args.actions.now i c.loop-i.actions c.lists_at.result _ _ c.loop-i.invariant.1 (omega (arith, c.requires.room)) item c.lists_at.ensures,
-      copy-next priced all c.args.prices.now i c.loop-i.prices c.u32_at.result _ _ c.loop-i.invariant.2 (omega (arith, c.requires.room)) item c.u32_at.ensures,
+    let item = walk_item finite_domain_kind read_assignments bs first n i p w more in (
+      subst (λ m. Walk finite_domain_kind read_assignments bs first n (i + 1) (p + 2 + m)) (sym c.u16_at.ensures) (walk_next finite_domain_kind read_assignments bs first n i p w more),
+      copy_next entered all c.args.actions.now i c.loop-i.actions c.lists_at.result _ _ c.loop-i.invariant.1 (omega (arith, c.requires.room)) item c.lists_at.ensures,
+      copy_next priced all c.args.prices.now i c.loop-i.prices c.u32_at.result _ _ c.loop-i.invariant.2 (omega (arith, c.requires.room)) item c.u32_at.ensures,
     )
 
 pub returns : goal.returns
@@ -72,6 +72,6 @@ returns c content h =
     let is : all ≡ content.actions =
     ap (λ m. actions_from finite_domain_kind read_assignments bs m first) c.requires.count ∙ ap (λ x. x.actions) (finite_domain_complete bs content small h.valid h.laid).1 in
     let done : c.loop-i.i ≡ length all = omega (arith, actions_count finite_domain_kind read_assignments bs n first, c.loop-i-test.false, c.loop-i.auto.i-end) in (
-      copy-end entered all c.args.actions.now content.actions c.loop-i.i c.loop-i.actions is done c.loop-i.invariant.1,
-      copy-end priced all c.args.prices.now content.actions c.loop-i.i c.loop-i.prices is done c.loop-i.invariant.2,
+      copy_end entered all c.args.actions.now content.actions c.loop-i.i c.loop-i.actions is done c.loop-i.invariant.1,
+      copy_end priced all c.args.prices.now content.actions c.loop-i.i c.loop-i.prices is done c.loop-i.invariant.2,
     )

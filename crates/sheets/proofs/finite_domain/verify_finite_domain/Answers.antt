@@ -6,7 +6,7 @@ use Rattle.sheet_layout.specs.FiniteDomain.{finite_domain_kind, finite_domain_he
 use Rattle.sheet_layout.specs.Frame.{opening_checks, records_checks}
 use Rattle.sheet_layout.specs.Numbers.{byte_at, num16}
 use Rattle.sheets.specs.FiniteDomainReading.{FiniteDomainHeadAt}
-use Rattle.sheets.proofs.FiniteDomainVerdicts.{Copied, head-same, head_done}
+use Rattle.sheets.proofs.FiniteDomainVerdicts.{Copied, head_same, head_done}
 use Rattle.sheets.proofs.finite_domain.verify_finite_domain.Goals as goal
 use Rattle.sheets.proofs.finite_domain.verify_finite_domain.Goals.{After-sixteen-3, In_ok-head}
 
@@ -21,7 +21,7 @@ pub returns-in_err-head : goal.returns-in_err-head
 returns-in_err-head c =
     let bs = c.args.sheet.now in
     let opened = c.in_ok-opening.ensures in
-    let same = head-same bs opened.0 c.sixteen.result c.sixteen-2.result c.sixteen-3.result _ _ opened.1.0 opened.1.1 (copied (goal.at.returns-in_err-head c).After-sixteen-3) in
+    let same = head_same bs opened.0 c.sixteen.result c.sixteen-2.result c.sixteen-3.result _ _ opened.1.0 opened.1.1 (copied (goal.at.returns-in_err-head c).After-sixteen-3) in
     let p = err_from_is_err_and c.from_residual-in_err-head.result c.from_residual-in_err-head.ensures.1 in
     let records = records_checks finite_domain_kind bs (num16 bs 7) (9 + 3 * byte_at bs 6) in
     rw (p.1, p.2) (after (opening_checks finite_domain_kind bs) (finite_domain_head_checks bs ++ records) opened.0 ∙ within (finite_domain_head_checks bs) records _ (same ∙ c.in_err-head.ensures))

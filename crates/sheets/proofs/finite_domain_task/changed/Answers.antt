@@ -1,7 +1,7 @@
 use Rattle.std.proofs.Common.{◌≡◌, ℕ, cond, eqb, ◌++◌, length, get_or, sym, ap, ◌∙◌, append-nil, arith}
 use Rattle.std.proofs.lemmas.List.{length-set, drop_all}
 use Rattle.std.proofs.lemmas.Bool.{cond-true, cond-false, eq-eqb, ne_eqb}
-use Rattle.sheet_layout.proofs.Walking.{copy-next}
+use Rattle.sheet_layout.proofs.Walking.{copy_next}
 use Rattle.sheets.specs.FiniteDomainTasks.{changed}
 use Rattle.sheets.proofs.FiniteDomainSteps.{changed_on, changed-length, copied_whole}
 use Rattle.sheets.proofs.finite_domain_task.changed.Goals as goal
@@ -22,7 +22,7 @@ loop-i-preserved c =
     let item = changed_on xs vs i (c.told-effects ∙ sym c.loop-i.invariant.1) (omega (arith, c.loop-i.invariant.1, c.loop-i-test.true)) in (
       length-set c.loop-i.after i c.if-effects-i.after ∙ c.loop-i.invariant.0,
       c.loop-i.invariant.1,
-      copy-next (λ (w : ℕ). w) (changed xs vs) vs i c.loop-i.after c.if-effects-i.after _ _ c.loop-i.invariant.2 (omega (arith, c.loop-i.invariant.1, c.loop-i-test.true)) item is,
+      copy_next (λ (w : ℕ). w) (changed xs vs) vs i c.loop-i.after c.if-effects-i.after _ _ c.loop-i.invariant.2 (omega (arith, c.loop-i.invariant.1, c.loop-i-test.true)) item is,
     )
 
 pub returns : goal.returns

@@ -1,6 +1,6 @@
 use Rattle.std.proofs.Common.{◌≡◌, ℕ, ◌%◌, length, get_or, replicate, refl, ◌∙◌, arith, rules}
 use Rattle.std.proofs.lemmas.List.{length-set}
-use Rattle.sheet_layout.proofs.Walking.{copy-next}
+use Rattle.sheet_layout.proofs.Walking.{copy_next}
 use Rattle.sheets.specs.FiniteDomainTasks.{decode}
 use Rattle.sheets.proofs.FiniteDomainSteps.{every_at, decode_on, decode_next, decode-length, copied_padded}
 use Rattle.sheets.proofs.finite_domain_task.decode.Goals as goal
@@ -22,7 +22,7 @@ loop-i-preserved c =
     let rest = c.loop-i.rest in
     let item = decode_on ns i s rest c.loop-i-test.true c.loop-i.invariant.2 in (
       length-set c.loop-i.values i (rest % get_or ns i 0) ∙ c.loop-i.invariant.0,
-      copy-next (λ (v : ℕ). v) (decode ns s) (replicate 16 0) i c.loop-i.values (rest % get_or ns i 0) _ _ c.loop-i.invariant.1 (omega (arith, c.loop-i-test.true, c.requires.few)) item refl,
+      copy_next (λ (v : ℕ). v) (decode ns s) (replicate 16 0) i c.loop-i.values (rest % get_or ns i 0) _ _ c.loop-i.invariant.1 (omega (arith, c.loop-i-test.true, c.requires.few)) item refl,
       decode_next ns i s rest c.loop-i-test.true c.loop-i.invariant.2,
     )
 

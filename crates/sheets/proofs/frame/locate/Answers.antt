@@ -1,11 +1,11 @@
 use Rattle.std.proofs.Common.{◌≡◌, ℕ, ◌+◌, ◌<◌, ◌≤◌, List, length, sym, refl, ap, ◌∙◌, subst, arith, rules}
 use Rattle.sheet_layout.specs.Frame.{KindOf, record_end}
-use Rattle.sheet_layout.proofs.Walking.{Walk, walk_start, walk-passed, walk-next, place_next}
+use Rattle.sheet_layout.proofs.Walking.{Walk, walk_start, walk_passed, walk_next, place_next}
 use Rattle.sheets.proofs.frame.locate.Goals as goal
 
 room : (k : KindOf) (bs : List ℕ) (first n i p : ℕ) → Walk {C = Unit {0}} k (λ bs p. tt) bs first n i p → i < n → (p + 2 ≤ length bs) × (record_end bs p ≤ length bs)
 room k bs first n i p w more =
-    let here = (walk-passed {C = Unit {0}} k (λ bs p. tt) bs first n i p w more).0.frame in
+    let here = (walk_passed {C = Unit {0}} k (λ bs p. tt) bs first n i p w more).0.frame in
     (omega (arith, here.room, here.inside), here.inside)
 
 pub loop-i-init : goal.loop-i-init
@@ -30,7 +30,7 @@ loop-i-preserved g c =
     let bs = c.args.sheet.now in
     let i = c.loop-i.i in
     let more : i < c.args.count = omega (arith, c.loop-i-test.true, c.requires.below) in
-    let next = walk-next g.K.SheetKind.kind (λ bs p. tt) bs c.args.first c.args.count i c.loop-i.at c.loop-i.invariant.1 more in
+    let next = walk_next g.K.SheetKind.kind (λ bs p. tt) bs c.args.first c.args.count i c.loop-i.at c.loop-i.invariant.1 more in
     let e : c.loop-i.at + 2 + c.u16_at.result ≡ record_end bs c.loop-i.at = ap (λ m. c.loop-i.at + 2 + m) c.u16_at.ensures in (
       e ∙ ap (record_end bs) c.loop-i.invariant.0 ∙ sym (place_next bs i c.args.first),
       subst (Walk {C = Unit {0}} g.K.SheetKind.kind (λ bs p. tt) bs c.args.first c.args.count (i + 1)) (sym e) next,

@@ -8,7 +8,7 @@ use Rattle.sheet_layout.specs.Numbers.{Bytes, num16}
 use Rattle.sheet_layout.proofs.FiniteDomainSheets.{records_at, finite_domain_read, sheet_passed}
 use Rattle.sheets.specs.Records.{FiniteDomainAt, number_check}
 use Rattle.sheets.proofs.LastChecks.{number_fails}
-use Rattle.sheets.proofs.FiniteDomainRecords.{fits-there, record-there}
+use Rattle.sheets.proofs.FiniteDomainRecords.{fits_there, record_there}
 use Rattle.sheets.proofs.FiniteDomainVerdicts.{passes}
 use Rattle.sheets.proofs.record.finite_domain_numbered.Goals as goal
 use Rattle.sheets.proofs.record.finite_domain_numbered.Goals.{In_ok-head}
@@ -46,7 +46,7 @@ finite_domain_record-requires c =
     let told = c.in_ok-head.ensures in
     let here = begin (goal.at.finite_domain_record-requires c).In_ok-head in
     let is = c.locate-at.ensures ∙ ap (record_place bs c.args.number) here in
-    subst (λ p. framed finite_domain_kind bs p ≡ true) (sym is) (fits-there bs small told.0 c.args.number (omega (arith, told.1.actions, c.if-number-head.false)))
+    subst (λ p. framed finite_domain_kind bs p ≡ true) (sym is) (fits_there bs small told.0 c.args.number (omega (arith, told.1.actions, c.if-number-head.false)))
 
 pub returns : goal.returns
 returns c =
@@ -56,4 +56,4 @@ returns c =
     let here = begin (goal.at.returns c).In_ok-head in
     let is = c.locate-at.ensures ∙ ap (record_place bs c.args.number) here in
     let there = subst (λ p. FiniteDomainAt bs p c.finite_domain_record.result) is c.finite_domain_record.ensures in
-    (finite_domain_read bs, passes bs small told.0, record-there bs small told.0 c.args.number (omega (arith, told.1.actions, c.if-number-head.false)) c.finite_domain_record.result there)
+    (finite_domain_read bs, passes bs small told.0, record_there bs small told.0 c.args.number (omega (arith, told.1.actions, c.if-number-head.false)) c.finite_domain_record.result there)

@@ -6,7 +6,7 @@ use Rattle.planning.proofs.Rows.{within}
 use Rattle.sheet_layout.proofs.StripsSheets.{strips_read}
 use Rattle.sheets.specs.Records.{StripsAt}
 use Rattle.sheets.proofs.LastChecks.{number_fails}
-use Rattle.sheets.proofs.Verdicts.{passes, fits-there, record-there}
+use Rattle.sheets.proofs.Verdicts.{passes, fits_there, record_there}
 use Rattle.sheets.proofs.record.strips_numbered.Goals as goal
 
 pub returns-in_err-head : goal.returns-in_err-head
@@ -24,7 +24,7 @@ strips_record-requires c =
     let bs = c.args.sheet.now in
     let small : Bytes bs = λ i. omega (arith, c.type_inv.sheet i) in
     let told = c.in_ok-head.ensures in
-    rw c.locate-at.ensures (fits-there bs small told.0 c.args.number (omega (arith, told.1.actions, c.if-number-head.false)))
+    rw c.locate-at.ensures (fits_there bs small told.0 c.args.number (omega (arith, told.1.actions, c.if-number-head.false)))
 
 pub returns : goal.returns
 returns c =
@@ -32,4 +32,4 @@ returns c =
     let small : Bytes bs = λ i. omega (arith, c.type_inv.sheet i) in
     let told = c.in_ok-head.ensures in
     let there = subst (λ p. StripsAt bs p c.strips_record.result) c.locate-at.ensures c.strips_record.ensures in
-    (strips_read bs, passes bs small told.0, record-there bs small told.0 c.args.number (omega (arith, told.1.actions, c.if-number-head.false)) c.strips_record.result there)
+    (strips_read bs, passes bs small told.0, record_there bs small told.0 c.args.number (omega (arith, told.1.actions, c.if-number-head.false)) c.strips_record.result there)

@@ -1,5 +1,5 @@
 use Rattle.std.proofs.Common.{refl}
-use Rattle.heuristics.proofs.Kept.{maximum-admissible, maximum-consistent}
+use Rattle.heuristics.proofs.Kept.{maximum_admissible, maximum_consistent}
 use Rattle.heuristics.proofs.maximum.Maximum.new.Goals as goal
 
 pub returns : goal.returns
@@ -7,6 +7,6 @@ returns g c =
     let laws = g.met.A.Cost.CostAlgebra.laws in
     record {
       held = (refl, refl);
-      admissible = maximum-admissible g.A.Cost.CostAlgebra.algebra laws _ _;
-      consistent = maximum-consistent g.A.Cost.CostAlgebra.algebra laws _ _;
+      admissible = maximum_admissible g.A.Cost.CostAlgebra.algebra laws _ _;
+      consistent = maximum_consistent g.A.Cost.CostAlgebra.algebra laws _ _;
     }

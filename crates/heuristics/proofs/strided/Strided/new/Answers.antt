@@ -1,10 +1,10 @@
 use Rattle.std.proofs.Common.{refl}
-use Rattle.heuristics.proofs.Kept.{strided-admissible}
+use Rattle.heuristics.proofs.Kept.{strided_admissible}
 use Rattle.heuristics.proofs.strided.Strided.new.Goals as goal
 
 pub returns : goal.returns
 returns g c =
     record {
       held = (refl, refl);
-      admissible = strided-admissible g.H.Cost.CostAlgebra.algebra g.met.H.Cost.CostAlgebra.laws _ _;
+      admissible = strided_admissible g.H.Cost.CostAlgebra.algebra g.met.H.Cost.CostAlgebra.laws _ _;
     }

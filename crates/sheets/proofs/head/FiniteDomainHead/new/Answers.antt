@@ -3,7 +3,7 @@ use Rattle.std.proofs.lemmas.Result.{err_from_is_err_and}
 use Rattle.planning.specs.Checks.{first_failing}
 use Rattle.planning.proofs.Rows.{after, within}
 use Rattle.sheet_layout.specs.FiniteDomain.{product, counts_checks, values_checks, value_or_any, finite_domain_head}
-use Rattle.sheet_layout.proofs.FiniteDomainHeads.{counts-fail, product-fail, start-row, values_plain, counted_valid}
+use Rattle.sheet_layout.proofs.FiniteDomainHeads.{counts_fail, product_fail, start_row, values_plain, counted_valid}
 use Rattle.sheets.proofs.head.FiniteDomainHead.new.Goals as goal
 use Rattle.sheets.proofs.head.FiniteDomainHead.new.Goals.{In_ok-check_counts, Else-states-gt65536, In_ok-check_values, In_ok-check_values-2}
 
@@ -16,7 +16,7 @@ returns-in_err-check_counts c =
     let d = c.args.variables in
     let p = err_from_is_err_and c.from_residual.result c.from_residual.ensures.1 in
     rw (p.1, p.2)
-    (counts-fail d c.args.actions (take d c.args.counts) (take d c.args.start) (take d c.args.goal) (c.if-variables-lt1.false, c.if-variables-gt16.false) (c.if-actions-lt1.false, c.if-actions-gt512.false) _
+    (counts_fail d c.args.actions (take d c.args.counts) (take d c.args.start) (take d c.args.goal) (c.if-variables-lt1.false, c.if-variables-gt16.false) (c.if-actions-lt1.false, c.if-actions-gt512.false) _
     (ap (λ l. first_failing (counts_checks l 9)) (sym (cut d c.args.counts)) ∙ c.in_err-check_counts.ensures))
 
 counted : (c : In_ok-check_counts) → first_failing (counts_checks (take c.args.variables c.args.counts) 9) ≡ None
@@ -29,7 +29,7 @@ pub returns-then-states-gt65536 : goal.returns-then-states-gt65536
 returns-then-states-gt65536 c =
     let d = c.args.variables in
     let e = ap product (cut d c.args.counts) in
-    product-fail d c.args.actions (take d c.args.counts) (take d c.args.start) (take d c.args.goal) (c.if-variables-lt1.false, c.if-variables-gt16.false) (c.if-actions-lt1.false, c.if-actions-gt512.false)
+    product_fail d c.args.actions (take d c.args.counts) (take d c.args.start) (take d c.args.goal) (c.if-variables-lt1.false, c.if-variables-gt16.false) (c.if-actions-lt1.false, c.if-actions-gt512.false)
     (counted (goal.at.returns-then-states-gt65536 c).In_ok-check_counts)
     (omega (arith, e, c.count_states-states.ensures, c.if-states-gt65536.true))
 
@@ -46,7 +46,7 @@ valued : (c : Else-states-gt65536) → first_failing (finite_domain_head c.args.
 valued c =
     let d = c.args.variables in
     let e = ap product (cut d c.args.counts) in
-    start-row d c.args.actions (take d c.args.counts) (take d c.args.start) (take d c.args.goal) (c.if-variables-lt1.false, c.if-variables-gt16.false) (c.if-actions-lt1.false, c.if-actions-gt512.false)
+    start_row d c.args.actions (take d c.args.counts) (take d c.args.start) (take d c.args.goal) (c.if-variables-lt1.false, c.if-variables-gt16.false) (c.if-actions-lt1.false, c.if-actions-gt512.false)
     (ap (λ l. first_failing (counts_checks l 9)) (sym (cut d c.args.counts)) ∙ c.in_ok-check_counts.ensures.0)
     (omega (arith, e, c.count_states-states.ensures, c.if-states-gt65536.false))
 
