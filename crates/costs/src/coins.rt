@@ -2,10 +2,10 @@
 ghost use Rattle.costs.specs.Coins.{coins_algebra};
 ghost use Rattle.costs.specs.Laws.{coins_laws, coins_strict};
 
-use crate::CAP;
+use crate::capped_sum;
 use planning::cost::CostAlgebra;
 
-#[derive(Clone, Copy, PartialEq, Eq, Debug)]
+#[derive(Clone, Copy, PartialEq, Eq, PartialOrd, Ord, Debug)]
 pub struct Coins {
     pub amount: u64,
 }
@@ -29,11 +29,11 @@ impl CostAlgebra for Coins {
 
     fn plus(self, other: Coins) -> Coins {
         Coins {
-            amount: self.amount.saturating_add(other.amount).min(CAP),
+            amount: capped_sum(self.amount, other.amount),
         }
     }
 
     fn before(self, other: Coins) -> bool {
-        self.amount < other.amount
+        self < other
     }
 }

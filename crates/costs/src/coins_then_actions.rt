@@ -2,10 +2,11 @@
 ghost use Rattle.costs.specs.CoinsThenActions.{pair_algebra};
 ghost use Rattle.costs.specs.Laws.{pair_laws, pair_strict};
 
-use crate::CAP;
+use crate::capped_sum;
 use planning::cost::CostAlgebra;
 
-#[derive(Clone, Copy, PartialEq, Eq, Debug)]
+// Compared by coins first: the order of the fields is the order of costs.
+#[derive(Clone, Copy, PartialEq, Eq, PartialOrd, Ord, Debug)]
 pub struct CoinsThenActions {
     pub coins: u64,
     pub actions: u64,
@@ -34,12 +35,12 @@ impl CostAlgebra for CoinsThenActions {
 
     fn plus(self, other: CoinsThenActions) -> CoinsThenActions {
         CoinsThenActions {
-            coins: self.coins.saturating_add(other.coins).min(CAP),
-            actions: self.actions.saturating_add(other.actions).min(CAP),
+            coins: capped_sum(self.coins, other.coins),
+            actions: capped_sum(self.actions, other.actions),
         }
     }
 
     fn before(self, other: CoinsThenActions) -> bool {
-        self.coins < other.coins || self.coins == other.coins && self.actions < other.actions
+        self < other
     }
 }

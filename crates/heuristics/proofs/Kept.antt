@@ -4,14 +4,11 @@ use Rattle.planning.specs.Costs.{Algebra, CostLaws}
 use Rattle.planning.specs.Estimates.{Estimates, AtMost}
 use Rattle.planning.proofs.Admissibility.{not_before_trans}
 use Rattle.heuristics.specs.Layers.{later_estimate, maximum, strided}
-use Rattle.heuristics.specs.Promises.{BlindAdmissible, BlindConsistent, MaximumAdmissible, MaximumConsistent, StridedAdmissible}
+use Rattle.heuristics.specs.Promises.{BlindAdmissible, MaximumAdmissible, MaximumConsistent, StridedAdmissible}
 
 module _ {K : Type 0} (a : Algebra K) (laws : CostLaws a) where
   pub blind_admissible : BlindAdmissible a
   blind_admissible t p actions k s = (a.zero, refl, laws.zero_first k)
-
-  pub blind_consistent : BlindConsistent a
-  blind_consistent t p action to e y f = (a.zero, refl, laws.zero_first _)
 
   later_at_most : (h g : Estimates K) (p : ℕ) (k : K) → AtMost a h p k → AtMost a g p k → AtMost a (maximum a h g) p k
   later_at_most h g p k (x, ex, px) (y, ey, py) = go (a.before x y) refl

@@ -10,6 +10,7 @@ use planning::task::Task;
 use std::marker::PhantomData;
 
 // The number that marks a dead end.
+// Kept: a rule of the project: a lent table holds numbers of 32 bits, and the largest stands for a dead end.
 pub const DEAD_END: u32 = u32::MAX;
 
 #[derive(Clone, Copy)]
@@ -22,20 +23,25 @@ pub struct Table<'a, K> {
 pub(crate) fn number(numbers: &[u32], state: u32) -> u32
     ensures { result ≡ slice_index numbers.now state }
 {
-    match numbers.get(state as usize) {
-        Some(number) => *number,
-        None => 0,
+    numbers.get(state as usize).copied().unwrap_or(0)
+}
+
+// Whether a table has one number for each state.
+pub(crate) fn check_length<T: Task>(task: &T, numbers: &[u32]) -> Result<(), Refusal>
+    ensures { MatchResult result (λ _. OneEach (T.Task.model task.now) numbers.now) (WrongLength (T.Task.model task.now) numbers.now) }
+{
+    let states = task.states();
+    if numbers.len() != states as usize {
+        return Err(Refusal::TableLength { states });
     }
+    Ok(())
 }
 
 impl<'a, K: Counted> Table<'a, K> {
     pub fn new<T: Task>(task: &T, numbers: &'a [u32]) -> Result<Self, Refusal>
         ensures { MatchResult result (λ h. OneEach (T.Task.model task.now) numbers.now × (h.numbers.now ≡ numbers.now)) (WrongLength (T.Task.model task.now) numbers.now) }
     {
-        let states = task.states();
-        if numbers.len() != states as usize {
-            return Err(Refusal::TableLength { states });
-        }
+        check_length(task, numbers)?;
         Ok(Table {
             numbers,
             cost: PhantomData,

@@ -2,11 +2,13 @@ pub mod Checks
 pub mod Costs
 pub mod Estimates
 pub mod Histories
+pub mod Labelled
 pub mod Labels
 pub mod Lists
 pub mod Outcomes
 pub mod Paths
 pub mod Refusals
 pub mod Search
+pub mod Statuses
 pub mod Task
 pub mod Theorem

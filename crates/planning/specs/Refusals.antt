@@ -45,6 +45,11 @@ place_of (AtGoal state) = At state
 place_of (NotOpen turns) = At turns
 place_of (Foreign state) = At state
 
+-- a place as one number: of a state and an action the state
+abbrev pub number_of_place : Place → ℕ
+number_of_place (At n) = n
+number_of_place (StateAndAction state action) = state
+
 -- what is wrong, in words that help whoever made the input, by the number of the refusal; no word for other numbers
 abbrev pub sentence_of : ℕ → List ℕ
 sentence_of number =

@@ -25,9 +25,25 @@ pub trait CostAlgebra: Copy {
 }
 
 // What a search knows of a state: the cost of the best path found, and whether that path is tagged.
+// Kept: a rule of the project: the record is generic, of a cost, a tag and a flag that says whether the state is known.
 #[derive(Clone, Copy)]
 pub struct Record<K> {
     pub cost: K,
     pub tagged: bool,
     pub known: bool,
+}
+
+impl<K: CostAlgebra> Record<K> {
+    ghost use Rattle.planning.specs.Search.{blank};
+
+    // The record of a state of which nothing is known.
+    pub fn unknown() -> Record<K>
+        ensures { result ≡ blank K.CostAlgebra.algebra }
+    {
+        Record {
+            cost: K::zero(),
+            tagged: false,
+            known: false,
+        }
+    }
 }

@@ -3,6 +3,7 @@
 
 pub mod cost;
 pub mod heuristic;
+pub mod label;
 pub mod open_list;
 pub mod refusal;
 pub mod status;

@@ -5,6 +5,7 @@ ghost use Rattle.planning.specs.Lists.{Emptied, Put, Least, Taken};
 
 use crate::cost::CostAlgebra;
 
+// Kept: no plainer: every entry has a tag, yes or no, and a front whatever the tag is.
 #[derive(Clone, Copy)]
 pub struct Entry<K> {
     pub front: K,

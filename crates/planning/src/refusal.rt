@@ -1,6 +1,6 @@
 // Why a call refuses: eighteen numbered cases, each with its place.
 ghost use Rattle.std.specs.Prelude.{◌≡◌};
-ghost use Rattle.planning.specs.Refusals.{number_of, place_of, sentence_of};
+ghost use Rattle.planning.specs.Refusals.{number_of, place_of, number_of_place, sentence_of};
 
 use std::fmt;
 
@@ -46,6 +46,19 @@ pub enum Place {
     StateAndAction(u32, u16),
 }
 
+impl Place {
+    // The place as one number: of a state and an action the state.
+    pub fn number(&self) -> u64
+        ensures { result ≡ number_of_place self.now }
+    {
+        match *self {
+            Place::At(number) => number,
+            Place::StateAndAction(state, _) => state as u64,
+        }
+    }
+}
+
+// Kept: no plainer: no derive gives the numbers and places of cases that hold values; each case is listed once.
 impl Refusal {
     pub fn number(&self) -> u8
         ensures { result ≡ number_of self.now }
@@ -79,24 +92,25 @@ impl Refusal {
             Refusal::Length { given } => Place::At(given as u64),
             Refusal::Version | Refusal::Range => Place::At(0),
             Refusal::Kind => Place::At(5),
-            Refusal::Count { byte } => Place::At(byte as u64),
-            Refusal::StartOrGoal { byte } => Place::At(byte as u64),
-            Refusal::Frame { byte } => Place::At(byte as u64),
-            Refusal::Price { byte } => Place::At(byte as u64),
-            Refusal::Names { byte } => Place::At(byte as u64),
+            Refusal::Count { byte }
+            | Refusal::StartOrGoal { byte }
+            | Refusal::Frame { byte }
+            | Refusal::Price { byte }
+            | Refusal::Names { byte } => Place::At(byte as u64),
             Refusal::Short { needed } => Place::At(needed as u64),
             Refusal::TableLength { states } => Place::At(states as u64),
             Refusal::Inconsistent { state, action } => Place::StateAndAction(state, action),
-            Refusal::NoState { state } => Place::At(state as u64),
-            Refusal::NoAction { action } => Place::At(action as u64),
-            Refusal::Inapplicable { action } => Place::At(action as u64),
-            Refusal::AtGoal { state } => Place::At(state as u64),
+            Refusal::NoState { state } | Refusal::AtGoal { state } | Refusal::Foreign { state } =>
+                Place::At(state as u64),
+            Refusal::NoAction { action } | Refusal::Inapplicable { action } => {
+                Place::At(action as u64)
+            }
             Refusal::NotOpen { turns } => Place::At(turns as u64),
-            Refusal::Foreign { state } => Place::At(state as u64),
         }
     }
 }
 
+// Kept: no plainer: what a place counts differs from case to case, and no derive prints it.
 impl Refusal {
     // What the place counts or names.
     fn unit(&self) -> &'static str {
@@ -113,6 +127,7 @@ impl Refusal {
 }
 
 // What is wrong, in words that help whoever made the input, by the number of the refusal.
+// Kept: the C interface: the library for C explains a refusal by its number alone.
 pub fn sentence(number: u8) -> &'static str
     ensures { result.now ≡ sentence_of number }
 {

@@ -1,12 +1,14 @@
-use Rattle.std.proofs.Common.{ap, arith}
-use Rattle.planning.specs.declared.refusal.Refusal.TheVariants.{TableLength}
+use Rattle.std.proofs.Common.{arith}
+use Rattle.std.proofs.lemmas.Result.{err_from_is_err_and}
 use Rattle.costs.specs.Laws.{coins_laws, coins_counted_lem, pair_laws, pair_counted_lem}
 use Rattle.heuristics.specs.Checks.{wrong_length, breached}
 use Rattle.heuristics.proofs.Rule.{kept_trusted}
 use Rattle.heuristics.proofs.check.check_table.Goals as goal
 
-pub returns-then-numbers-states : goal.returns-then-numbers-states
-returns-then-numbers-states g c = wrong_length (ap TableLength c.states-states.ensures.value, omega arith)
+pub returns-in_err-check_length : goal.returns-in_err-check_length
+returns-in_err-check_length g c =
+    let p = err_from_is_err_and c.from_residual.result c.from_residual.ensures.1 in
+    rw (p.1, p.2) (wrong_length c.in_err-check_length.ensures)
 
 pub returns-in-None : goal.returns-in-None
 returns-in-None g c =

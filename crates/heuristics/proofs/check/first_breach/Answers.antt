@@ -4,12 +4,6 @@ use Rattle.heuristics.specs.Checks.{at_entry, at_action}
 use Rattle.heuristics.proofs.Rule.{actions_kept, states_kept}
 use Rattle.heuristics.proofs.check.first_breach.Goals as goal
 
-pub loop-action-preserved : goal.loop-action-preserved
-loop-action-preserved g c = (
-  c.loop-action.invariant.0,
-  below_more _ _ c.loop-action.invariant.1 (c.keeps_action.ensures.0 c.if-not-keeps_action.false),
-)
-
 pub loop-state-preserved : goal.loop-state-preserved
 loop-state-preserved g c =
     below_more _ _ c.loop-state.invariant
