@@ -7,26 +7,21 @@ ghost use Rattle.heap_order.specs.Order.{room_of};
 
 use crate::order::{precedes, served};
 use planning::cost::CostAlgebra;
+use planning::label::Label;
 use planning::open_list::{Entry, OpenList};
 
-// The entry of one state, if it waits.
+// The label of one state's entry, if it waits. Its cost is the entry's front.
 #[derive(Clone, Copy)]
 pub struct Slot<K> {
-    front: K,
-    waits: bool,
-    tagged: bool,
+    waiter: Option<Label<K>>,
 }
 
 impl<K: CostAlgebra> Slot<K> {
     // A slot in which nothing waits.
     pub fn blank() -> Slot<K>
-        ensures { result ≡ record { waits = false; front = K.CostAlgebra.algebra.zero; tagged = false } }
+        ensures { result ≡ record { waiter = None } }
     {
-        Slot {
-            waits: false,
-            front: K::zero(),
-            tagged: false,
-        }
+        Slot { waiter: None }
     }
 }
 
@@ -38,9 +33,7 @@ pub struct Flat<'a, K> {
 fn wipe<K: CostAlgebra>(slots: &mut [Slot<K>])
     ensures { (p : ℕ) → slot_label slots.new p ≡ None }
 {
-    for slot in slots.iter_mut() {
-        slot.waits = false;
-    }
+    slots.fill(Slot::blank());
 }
 
 // The earlier of the best entry so far and one more; the best so far where neither precedes the other.
@@ -48,8 +41,8 @@ fn better<K: CostAlgebra>(best: Option<Entry<K>>, entry: Entry<K>) -> Entry<K>
     ensures { result ≡ better_entry K.CostAlgebra.algebra best entry }
 {
     match best {
-        None => entry,
-        Some(held) => if precedes(entry, held) { entry } else { held },
+        Some(held) if !precedes(entry, held) => held,
+        _ => entry,
     }
 }
 
@@ -58,13 +51,12 @@ fn scan<K: CostAlgebra>(slots: &[Slot<K>], states: u32) -> Option<Entry<K>>
     ensures { Scanned K.CostAlgebra.algebra (slot_label slots.now) states result }
 {
     let mut best = None;
-    for state in 0..states {
-        let slot = slots[state as usize];
-        if slot.waits {
+    for (state, slot) in slots[..states as usize].iter().enumerate() {
+        if let Some(waiter) = slot.waiter {
             let entry = Entry {
-                state,
-                front: slot.front,
-                tagged: slot.tagged,
+                state: state as u32,
+                front: waiter.cost,
+                tagged: waiter.tagged,
             };
             best = Some(better(best, entry));
         }
@@ -78,7 +70,7 @@ fn take_least<K: CostAlgebra>(slots: &mut [Slot<K>], states: u32) -> Option<Entr
     ensures taken { Taken (slot_label slots.old) (slot_label slots.new) result }
 {
     let entry = scan(slots, states)?;
-    slots[entry.state as usize].waits = false;
+    slots[entry.state as usize].waiter = None;
     Some(entry)
 }
 
@@ -119,11 +111,10 @@ impl<'a, K: CostAlgebra> OpenList for Flat<'a, K> {
         if state >= self.capacity() {
             return false;
         }
-        self.slots[state as usize] = Slot {
-            waits: true,
-            front,
+        self.slots[state as usize].waiter = Some(Label {
+            cost: front,
             tagged,
-        };
+        });
         true
     }
 

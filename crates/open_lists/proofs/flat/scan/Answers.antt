@@ -1,24 +1,26 @@
 use Rattle.std.proofs.Common.{◌<◌, length, Some, None, refl, ap, ◌∙◌, arith}
+use Rattle.std.proofs.lemmas.List.{get_or-take, length-take}
+use Rattle.std.specs.Option.{option_map}
 use Rattle.planning.specs.declared.open_list.Entry.{Entry}
+use Rattle.planning.specs.Labelled.{labelled}
 use Rattle.open_lists.specs.Flats.{label_in, slot_label}
 use Rattle.open_lists.proofs.Fields.{field_read}
-use Rattle.open_lists.proofs.Flats.{reached, pass, find}
+use Rattle.open_lists.proofs.Flats.{pass, find}
 use Rattle.open_lists.proofs.flat.scan.Goals as goal
-use Rattle.open_lists.proofs.flat.scan.Goals.{then-slot, else-slot}
+use Rattle.open_lists.proofs.flat.scan.Goals.{in-Some, in_default}
 
 pub loop-state-preserved : goal.loop-state-preserved
 loop-state-preserved g c =
     let a = g.K.CostAlgebra.algebra in
     let xs = c.args.slots.now in
     let n = c.loop-state.state in
-    let slot = c.index-slots-state.result in
+    let slot = c.slot-item.result in
+    let long = length-take c.args.states xs in
     let inside : n < length xs = omega arith in
-    let read = field_read label_in None xs n slot inside c.index-slots-state.is in
-    let entry : Entry g.row.K.Denot = record { state = n; front = slot.front; tagged = slot.tagged } in
-    elim c.if-slot.branch [
-      | then-slot w ↦ find a (slot_label xs) g.met.K.CostAlgebra.laws n entry c.loop-state.best c.if-slot.best refl (let t = w.if-slot.true in cc) (w.best-is ∙ ap Some w.better.ensures) c.loop-state.invariant
-      | else-slot w ↦ pass a (slot_label xs) n c.loop-state.best c.if-slot.best w.best-is (let t = w.if-slot.false in cc) c.loop-state.invariant
+    let read = field_read label_in None xs n slot inside (c.slot-item.is ∙ get_or-take c.args.states xs n slot (omega arith)) in
+    elim c.match-slot.branch [
+      | in-Some w ↦
+          let entry : Entry g.row.K.Denot = record { state = n; front = w.in-Some.waiter.cost; tagged = w.in-Some.waiter.tagged } in
+          find a (slot_label xs) g.met.K.CostAlgebra.laws n entry c.loop-state.best c.match-slot.best refl (read ∙ ap (option_map labelled) w.in-Some.is) (w.best-is ∙ ap Some w.better.ensures) c.loop-state.invariant
+      | in_default w ↦ pass a (slot_label xs) n c.loop-state.best c.match-slot.best w.best-is (read ∙ ap (option_map labelled) w.in_default.is) c.loop-state.invariant
     ]
-
-pub returns : goal.returns
-returns g c = reached g.K.CostAlgebra.algebra (slot_label c.args.slots.now) c.loop-state.state c.args.states c.loop-state.best c.loop-state.best (omega arith) refl c.loop-state.invariant
