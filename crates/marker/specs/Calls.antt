@@ -1,5 +1,5 @@
 -- What the calls of a marking are handed, what they answer and what they leave.
-use Rattle.std.specs.Prelude.{◌≡◌, ℕ, ◌+◌, Bool, List, Some, None, Ok, Err, Option, Result}
+use Rattle.std.specs.Prelude.{◌≡◌, ℕ, ◌+◌, List, Some, None, Ok, Err, Option, Result}
 use Rattle.planning.specs.declared.cost.Record.{Record}
 use Rattle.planning.specs.declared.refusal.Refusal.{Refusal}
 use Rattle.planning.specs.declared.refusal.Refusal.TheVariants.{Foreign}
@@ -7,15 +7,11 @@ use Rattle.planning.specs.declared.status.Status.{Status}
 use Rattle.planning.specs.Costs.{Algebra}
 use Rattle.planning.specs.Estimates.{Estimates}
 use Rattle.planning.specs.Histories.{Owned, History, never, own}
-use Rattle.planning.specs.Labels.{Label}
 use Rattle.planning.specs.Lists.{Waiting}
 use Rattle.planning.specs.Search.{Numbers, Memory, Configuration, Advanced, Stopped}
 use Rattle.planning.specs.Task.{Model}
 use Rattle.planning.specs.Theorem.{Promised, Unstarted}
 use Rattle.marker.specs.declared.marking.Marking.{Marking}
-
-abbrev pub labelled : {K : Type 0} → K → Bool → Label K
-labelled cost tagged = record { cost = cost; tagged = tagged }
 
 -- a table and the entries that wait
 abbrev pub memory_of : {K : Type 0} → List (Record K) → Waiting K → Memory K
@@ -38,6 +34,10 @@ pub record Counts (m : Marking) (now : Status) (m' : Marking) : Type 0 where
 -- the answer is the marking's status and turns
 abbrev pub Tells : Marking → Status × ℕ → Type 0
 Tells m told = (told.0 ≡ m.status) × (told.1 ≡ m.turns)
+
+-- the refusal of a foreign entry, and what holds of its place
+abbrev pub Meets : (ℕ → Type 0) → Refusal → Type 0
+Meets P e = (place : ℕ) × (e ≡ Foreign place) × P place
 
 -- marking, list and table are as they were
 pub record Unchanged {K L : Type 0} (m m' : Marking) (l l' : L) (xs xs' : List (Record K)) : Type 0 where

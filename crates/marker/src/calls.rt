@@ -9,15 +9,17 @@ ghost use Rattle.marker.specs.Refusals.{start_checks, advance_checks};
 
 use crate::checks::{check_advance, check_start};
 use crate::marking::Marking;
-use crate::search::{clear, offer, onward, run};
+use crate::search::{Search, clear};
 use planning::cost::{CostAlgebra, Record};
 use planning::heuristic::Heuristic;
+use planning::label::Label;
 use planning::open_list::OpenList;
 use planning::refusal::Refusal;
 use planning::status::Status;
 use planning::task::Task;
 use planning::theorem::theorem_stands;
 
+// Kept: a rule of the project: what a call asks about and the caller's things are handed to each call one by one.
 impl Marking {
     pub fn fresh() -> Marking
         ensures { numbers_of result ≡ fresh_numbers }
@@ -49,10 +51,23 @@ impl Marking {
         let to = check_start(task, list, table.len(), state, action, limit)?;
         list.clear();
         clear(table, task.states() as usize);
-        offer(heuristic, list, table, state, H::Cost::zero(), false);
-        let charge = H::Cost::charge(to.coins);
-        offer(heuristic, list, table, to.state, charge, true);
-        let status = onward(list, 0, limit);
+        let mut search = Search {
+            task,
+            heuristic,
+            list,
+            table,
+        };
+        let stay = Label {
+            cost: H::Cost::zero(),
+            tagged: false,
+        };
+        search.offer(state, stay);
+        let step = Label {
+            cost: H::Cost::charge(to.coins),
+            tagged: true,
+        };
+        search.offer(to.state, step);
+        let status = search.onward(0, limit);
         *self = Marking {
             status,
             turns: 0,
@@ -77,15 +92,15 @@ impl Marking {
         ensures ordered { L.OpenList.ordered list.old → L.OpenList.ordered list.new }
         ensures room { L.OpenList.room list.new ≡ L.OpenList.room list.old }
     {
-        let marking = *self;
-        check_advance(marking, task, list, table.len(), budget)?;
-        let ran = run(marking, task, heuristic, list, table, budget);
-        let left = ran.marking;
-        *self = left;
-        match ran.met {
-            None => Ok((left.status, left.turns)),
-            Some(state) => Err(Refusal::Foreign { state }),
-        }
+        check_advance(*self, task, list, table.len(), budget)?;
+        let mut search = Search {
+            task,
+            heuristic,
+            list,
+            table,
+        };
+        search.run(self, budget)?;
+        Ok(self.look())
     }
 
     // The status and the turns made since the start.

@@ -1,5 +1,6 @@
 // The checks of the calls, in ascending number.
-ghost use Rattle.std.specs.Prelude.{◌≡◌, ◌≤◌, Some};
+ghost use Rattle.std.specs.Prelude.{◌≡◌, ◌≤◌, ◌&&◌, false, nat_le, Some, MatchResult};
+ghost use Rattle.planning.specs.declared.refusal.Refusal.TheVariants.{Short};
 ghost use Rattle.planning.specs.declared.status.Status.TheVariants.{Open};
 ghost use Rattle.planning.specs.Checks.{first_failing};
 ghost use Rattle.planning.specs.Outcomes.{Answers};
@@ -13,6 +14,18 @@ use planning::refusal::Refusal;
 use planning::status::Status;
 use planning::task::{Task, Transition};
 
+// Whether the table has a record for each state, and the list room for each.
+fn check_room<L: OpenList>(states: u32, list: &L, records: usize) -> Result<(), Refusal>
+    ensures { MatchResult result (λ _. (states ≤ records) × (states ≤ L.OpenList.room list.now)) (λ refusal. ((nat_le states records && nat_le states (L.OpenList.room list.now)) ≡ false) × (refusal ≡ Short states)) }
+{
+    let needed = states as usize;
+    if records < needed || list.capacity() < states {
+        return Err(Refusal::Short { needed });
+    }
+    Ok(())
+}
+
+// Kept: a rule of the project: what a call asks about and the caller's things are handed on one by one, as the calls have them.
 pub(crate) fn check_start<T: Task, L: OpenList>(
     task: &T,
     list: &L,
@@ -25,11 +38,8 @@ pub(crate) fn check_start<T: Task, L: OpenList>(
     ensures answers { Answers (first_failing (start_checks (T.Task.model task.now) records (L.OpenList.room list.now) state action limit)) (Admitted (T.Task.model task.now) records (L.OpenList.room list.now) state action limit) result }
 {
     let states = task.states();
-    let needed = states as usize;
-    if records < needed || list.capacity() < states {
-        return Err(Refusal::Short { needed });
-    }
-    if limit < 1 || limit > 100_000_000 {
+    check_room(states, list, records)?;
+    if !(1..=100_000_000).contains(&limit) {
         return Err(Refusal::Range);
     }
     if state >= states {
@@ -38,9 +48,9 @@ pub(crate) fn check_start<T: Task, L: OpenList>(
     if action >= task.actions() {
         return Err(Refusal::NoAction { action });
     }
-    let Some(to) = task.transition(state, action) else {
-        return Err(Refusal::Inapplicable { action });
-    };
+    let to = task
+        .transition(state, action)
+        .ok_or(Refusal::Inapplicable { action })?;
     if task.is_goal(state) {
         return Err(Refusal::AtGoal { state });
     }
@@ -58,10 +68,7 @@ pub(crate) fn check_advance<T: Task, L: OpenList>(
     ensures answers { Answers (first_failing (advance_checks (T.Task.model task.now) records (L.OpenList.room list.now) budget (numbers_of marking))) (λ _. ((T.Task.model task.now).states ≤ records) × ((T.Task.model task.now).states ≤ L.OpenList.room list.now) × (marking.status ≡ Open)) result }
 {
     let states = task.states();
-    let needed = states as usize;
-    if records < needed || list.capacity() < states {
-        return Err(Refusal::Short { needed });
-    }
+    check_room(states, list, records)?;
     if budget > 1_000_000 {
         return Err(Refusal::Range);
     }

@@ -15,6 +15,8 @@ use planning::status::Status;
 use planning::task::Task;
 use planning::theorem::theorem_stands;
 
+// Kept: a rule of the project: what a call asks about and the caller's things are handed to it one by one.
+
 // Whether a cheapest solution from a state begins with an action, found in at most as many turns as the limit.
 pub fn mark<T: Task, H: Heuristic, L: OpenList<Cost = H::Cost>>(
     task: &T,

@@ -63,15 +63,10 @@ loop-told-preserved g c =
     let told = passing g (goal.at.loop-told-preserved g c).In-Open c.advance.new.self c.advance.new.list c.advance.new.table (Ok c.in_ok-told-2.told) c.in_ok-told-2.ensures.answers in
     (told.0, going_on _ _ _ _ _ _ _ _ _ _ (omega (arith, c.states.ensures.lawful.few_states)) inv.1 (told.1 inv.2), c.in_ok-told-2.ensures.ordered inv.2, c.in_ok-told-2.ensures.room ∙ inv.3)
 
-pub returns : goal.returns
-returns g c =
+pub returns-clause-answers : goal.returns-clause-answers
+returns-clause-answers g c =
     let inv = c.loop-told.invariant in
-    let look = c.look.ensures in
-    record {
-      answers = (
-        c.in_ok-told.ensures.answers.0,
-        (going_end _ _ _ _ _ _ c.theorem_stands.ensures c.states.ensures.lawful c.bounded.ensures _ _ _ look.0 look.1 (λ e. c.in_default.not-Open (inv.0.0 ∙ sym look.0 ∙ e)) inv.1, inv.2),
-      );
-      refused = tt;
-      room = inv.3 ∙ c.in_ok-told.ensures.room;
-    }
+    let look = c.look.ensures in (
+      c.in_ok-told.ensures.answers.0,
+      (going_end _ _ _ _ _ _ c.theorem_stands.ensures c.states.ensures.lawful c.bounded.ensures _ _ _ look.0 look.1 (λ e. c.in_default.not-Open (inv.0.0 ∙ sym look.0 ∙ e)) inv.1, inv.2),
+    )
