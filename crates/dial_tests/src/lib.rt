@@ -3,11 +3,11 @@
 // Sheets of dials byte by byte, and a task of dials beside the same task of facts.
 #[cfg(test)]
 mod tests {
-    use planning::refusal::Place;
     use planning::task::{Task, Transition};
-    use sheets::finite_domain::{FiniteDomainAction, check_finite_domain, read_finite_domain};
+    use sheets::finite_domain::{FiniteDomainAction, Variables};
     use sheets::finite_domain_task::FiniteDomainTask;
     use sheets::head::{FiniteDomainHead, StripsHead};
+    use sheets::reading::{check, read};
     use sheets::record::{SheetRecord, record};
     use sheets::strips::StripsAction;
     use sheets::strips_task::StripsTask;
@@ -30,16 +30,15 @@ mod tests {
     ];
 
     // The number and the place that a sheet is refused with, or zeros where it is accepted.
+    // Kept: no plainer: a row of a table of cases has a number and a place, zeros for none.
     fn verdict(sheet: &[u8]) -> (u8, u64) {
-        match check_finite_domain(sheet) {
+        match check::<Variables>(sheet) {
             Ok(_) => (0, 0),
-            Err(refusal) => match refusal.place() {
-                Place::At(place) => (refusal.number(), place),
-                Place::StateAndAction(_, _) => (refusal.number(), 0),
-            },
+            Err(refusal) => (refusal.number(), refusal.place().number()),
         }
     }
 
+    // Kept: no plainer: two crates of tests share these few lines, and a crate for them would be longer.
     fn with_byte(heap: Global, sheet: &[u8], at: usize, byte: u8) -> Result<Vec<u8>, AllocError> {
         let mut copy = sheet.to_vec(heap)?;
         if let Some(b) = copy.get_mut(at) {
@@ -118,12 +117,8 @@ mod tests {
             1,
         ])?;
         sheet.extend_from_slice(counts)?;
-        for _ in counts {
-            sheet.push(1)?;
-        }
-        for _ in counts {
-            sheet.push(255)?;
-        }
+        sheet.resize(sheet.len().saturating_add(counts.len()), 1)?;
+        sheet.resize(sheet.len().saturating_add(counts.len()), 255)?;
         sheet.extend_from_slice(&[0, 7, 0, 0, 0, 0, 0, 0, 110])?;
         Ok(sheet)
     }
@@ -151,9 +146,9 @@ mod tests {
         };
         let mut actions = [none; 6];
         let mut prices = [7; 6];
-        assert!(rt; read_finite_domain(&LAMP, &mut actions[0..4], &mut prices).is_err());
+        assert!(rt; read::<Variables>(&LAMP, &mut actions[0..4], &mut prices).is_err());
         assert_eq!(rt; prices, [7; 6]);
-        assert!(rt; read_finite_domain(&LAMP, &mut actions, &mut prices).is_ok());
+        assert!(rt; read::<Variables>(&LAMP, &mut actions, &mut prices).is_ok());
         assert_eq!(rt; prices, [1, 1, 1, 2, 9, 7]);
         match record(&LAMP, 1) {
             Ok(SheetRecord::FiniteDomain(r)) => {

@@ -1,5 +1,6 @@
 // A row of calls on one fresh marking.
-use crate::rows::{Row, Step, answered, flag, told};
+use crate::request::Request;
+use crate::rows::{Row, Step};
 use marker::mark::mark;
 use marker::marking::Marking;
 use planning::cost::{CostAlgebra, Record};
@@ -15,42 +16,37 @@ fn call<T: Task, H: Heuristic, L: OpenList<Cost = H::Cost>>(
     table: &mut [Record<H::Cost>],
     step: Step,
 ) -> Row {
-    match step.call {
-        0 => answered(marking.start(
-            task,
-            heuristic,
-            list,
-            table,
-            step.state,
-            step.action,
-            step.number,
-        )),
-        1 => answered(marking.advance(task, heuristic, list, table, step.number)),
-        2 => told(marking.look_kept(task, heuristic, list, table)),
-        3 => answered(mark(
-            task,
-            heuristic,
-            list,
-            table,
-            step.state,
-            step.action,
-            step.number,
-        )),
-        4 => flag(list.put(step.state, H::Cost::charge(step.number), step.tagged != 0)),
-        _ => flag(list.take().is_some()),
+    let Step {
+        call,
+        tagged,
+        action,
+        state,
+        number,
+    } = step;
+    // Kept: the C interface: a call crosses as a number, which is looked at once, here.
+    match call {
+        0 => marking
+            .start(task, heuristic, list, table, state, action, number)
+            .into(),
+        1 => marking.advance(task, heuristic, list, table, number).into(),
+        2 => marking.look_kept(task, heuristic, list, table).into(),
+        3 => mark(task, heuristic, list, table, state, action, number).into(),
+        4 => list.put(state, H::Cost::charge(number), tagged != 0).into(),
+        _ => list.take().is_some().into(),
     }
 }
 
-pub(crate) fn play<T: Task, H: Heuristic, L: OpenList<Cost = H::Cost>>(
-    task: &T,
-    heuristic: &H,
-    list: &mut L,
-    table: &mut [Record<H::Cost>],
-    steps: &[Step],
-    rows: &mut [Row],
-) {
-    let mut marking = Marking::fresh();
-    for i in 0..steps.len().min(rows.len()) {
-        rows[i] = call(&mut marking, task, heuristic, list, table, steps[i]);
+impl Request<'_> {
+    pub(crate) fn play<T: Task, H: Heuristic, L: OpenList<Cost = H::Cost>>(
+        &mut self,
+        task: &T,
+        heuristic: &H,
+        list: &mut L,
+        table: &mut [Record<H::Cost>],
+    ) {
+        let mut marking = Marking::fresh();
+        for (row, step) in self.rows.iter_mut().zip(self.steps) {
+            *row = call(&mut marking, task, heuristic, list, table, *step);
+        }
     }
 }

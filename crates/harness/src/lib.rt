@@ -5,11 +5,11 @@
 mod calls;
 mod kinds;
 mod parts;
+mod request;
 pub mod rows;
 
-use kinds::with_head;
-use rows::{Row, Setup, Step, refused};
-use sheets::sheet::read_head;
+use request::Request;
+use rows::{Row, Setup, Step};
 use std::alloc::Global;
 
 // Reads a sheet, makes its task and the parts that are chosen, and makes the calls; false where there was no memory.
@@ -24,11 +24,15 @@ pub extern "C" fn harness_play(
     rows: &mut [Row],
     top: &mut Row,
 ) -> bool {
-    let played = match read_head(sheet) {
-        Ok(head) => with_head(heap, setup, head, sheet, first, second, steps, rows),
-        Err(refusal) => Ok(refused(refusal)),
+    let mut request = Request {
+        heap,
+        setup,
+        first,
+        second,
+        steps,
+        rows,
     };
-    match played {
+    match request.with_sheet(sheet) {
         Ok(row) => {
             *top = row;
             true

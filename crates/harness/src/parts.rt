@@ -1,6 +1,6 @@
 // The choice of list, heuristic and cost algebra, each in its own memory.
-use crate::calls::play;
-use crate::rows::{Row, Setup, Step};
+// Kept: the C interface: each choice crosses as a number, which is looked at once, here.
+use crate::request::Request;
 use costs::coins::Coins;
 use costs::coins_then_actions::CoinsThenActions;
 use costs::counted::Counted;
@@ -13,90 +13,53 @@ use open_lists::heap::{Heap, Place};
 use planning::cost::{CostAlgebra, Record};
 use planning::heuristic::Heuristic;
 use planning::task::Task;
-use std::alloc::{AllocError, Global};
+use std::alloc::AllocError;
 
-fn with_list<T: Task, K: CostAlgebra + Clone, H: Heuristic<Cost = K>>(
-    heap: Global,
-    setup: &Setup,
-    task: &T,
-    heuristic: &H,
-    steps: &[Step],
-    rows: &mut [Row],
-) -> Result<(), AllocError> {
-    let unknown = Record {
-        cost: K::zero(),
-        tagged: false,
-        known: false,
-    };
-    let mut table = vec![in heap; unknown; setup.records as usize]?;
-    if setup.list == 0 {
-        let mut places = vec![in heap; Place::<K>::blank(); setup.room as usize]?;
-        let mut list = Heap::new(places.as_mut_slice());
-        play(
-            task,
-            heuristic,
-            &mut list,
-            table.as_mut_slice(),
-            steps,
-            rows,
-        );
-    } else {
-        let mut slots = vec![in heap; Slot::<K>::blank(); setup.room as usize]?;
-        let mut list = Flat::new(slots.as_mut_slice());
-        play(
-            task,
-            heuristic,
-            &mut list,
-            table.as_mut_slice(),
-            steps,
-            rows,
-        );
+impl Request<'_> {
+    fn with_list<T: Task, K: CostAlgebra + Clone, H: Heuristic<Cost = K>>(
+        &mut self,
+        task: &T,
+        heuristic: &H,
+    ) -> Result<(), AllocError> {
+        let heap = self.heap;
+        let room = self.setup.room as usize;
+        let mut table = vec![in heap; Record::<K>::unknown(); self.setup.records as usize]?;
+        if self.setup.list == 0 {
+            let mut places = vec![in heap; Place::<K>::blank(); room]?;
+            self.play(task, heuristic, &mut Heap::new(&mut places), &mut table);
+        } else {
+            let mut slots = vec![in heap; Slot::<K>::blank(); room]?;
+            self.play(task, heuristic, &mut Flat::new(&mut slots), &mut table);
+        }
+        Ok(())
     }
-    Ok(())
-}
 
-fn with_heuristic<T: Task, K: Counted + Clone>(
-    heap: Global,
-    setup: &Setup,
-    task: &T,
-    first: &[u32],
-    second: &[u32],
-    steps: &[Step],
-    rows: &mut [Row],
-) -> Result<(), AllocError> {
-    let blind: Blind<K> = Blind::new();
-    if setup.heuristic == 0 {
-        return with_list(heap, setup, task, &blind, steps, rows);
+    fn with_heuristic<T: Task, K: Counted + Clone>(&mut self, task: &T) -> Result<(), AllocError> {
+        let blind: Blind<K> = Blind::new();
+        if self.setup.heuristic == 0 {
+            return self.with_list(task, &blind);
+        }
+        let Ok(table) = Table::<K>::new(task, self.first) else {
+            return Ok(());
+        };
+        if self.setup.heuristic == 1 {
+            return self.with_list(task, &table);
+        }
+        let stride = self.setup.stride;
+        if self.setup.heuristic == 2 {
+            return self.with_list(task, &Strided::new(table, stride));
+        }
+        let Ok(other) = Table::<K>::new(task, self.second) else {
+            return Ok(());
+        };
+        self.with_list(task, &Maximum::new(table, Strided::new(other, stride)))
     }
-    let Ok(table) = Table::<K>::new(task, first) else {
-        return Ok(());
-    };
-    if setup.heuristic == 1 {
-        return with_list(heap, setup, task, &table, steps, rows);
-    }
-    if setup.heuristic == 2 {
-        let strided = Strided::new(table, setup.stride);
-        return with_list(heap, setup, task, &strided, steps, rows);
-    }
-    let Ok(other) = Table::<K>::new(task, second) else {
-        return Ok(());
-    };
-    let maximum = Maximum::new(table, Strided::new(other, setup.stride));
-    with_list(heap, setup, task, &maximum, steps, rows)
-}
 
-pub(crate) fn with_cost<T: Task>(
-    heap: Global,
-    setup: &Setup,
-    task: &T,
-    first: &[u32],
-    second: &[u32],
-    steps: &[Step],
-    rows: &mut [Row],
-) -> Result<(), AllocError> {
-    if setup.cost == 0 {
-        with_heuristic::<T, Coins>(heap, setup, task, first, second, steps, rows)
-    } else {
-        with_heuristic::<T, CoinsThenActions>(heap, setup, task, first, second, steps, rows)
+    pub(crate) fn with_cost<T: Task>(&mut self, task: &T) -> Result<(), AllocError> {
+        if self.setup.cost == 0 {
+            self.with_heuristic::<T, Coins>(task)
+        } else {
+            self.with_heuristic::<T, CoinsThenActions>(task)
+        }
     }
 }

@@ -1,5 +1,6 @@
 // What crosses to the other language: the parts that are chosen, a call, and what it answered.
-use planning::refusal::{Place as RefusalPlace, Refusal};
+// Kept: the C interface: parts, calls, refusals and statuses cross as numbers.
+use planning::refusal::{Place, Refusal};
 use planning::status::Status;
 
 // Which parts a marking is made with, and how long its table and its list are.
@@ -28,7 +29,7 @@ pub struct Step {
 
 // What a call answered: the number of a refusal or 0, the status, the turns, and the place of a refusal.
 #[repr(C)]
-#[derive(Clone, Copy)]
+#[derive(Clone, Copy, Default)]
 pub struct Row {
     pub number: u8,
     pub status: u8,
@@ -37,64 +38,46 @@ pub struct Row {
     pub place: u64,
 }
 
-pub(crate) fn code(status: Status) -> u8 {
-    match status {
-        Status::Fresh => 0,
-        Status::Open => 1,
-        Status::Best => 2,
-        Status::Other => 3,
-        Status::Stuck => 4,
-        Status::Spent => 5,
+impl From<(Status, u32)> for Row {
+    fn from(told: (Status, u32)) -> Row {
+        let (status, turns) = told;
+        Row {
+            status: status as u8,
+            turns,
+            ..Row::default()
+        }
     }
 }
 
-pub(crate) fn told(answer: (Status, u32)) -> Row {
-    Row {
-        number: 0,
-        status: code(answer.0),
-        action: 0,
-        turns: answer.1,
-        place: 0,
+impl From<Refusal> for Row {
+    fn from(refusal: Refusal) -> Row {
+        let (place, action) = match refusal.place() {
+            Place::At(place) => (place, 0),
+            Place::StateAndAction(state, action) => (state as u64, action),
+        };
+        Row {
+            number: refusal.number(),
+            action,
+            place,
+            ..Row::default()
+        }
     }
 }
 
-pub(crate) fn refused(refusal: Refusal) -> Row {
-    let (place, action) = match refusal.place() {
-        RefusalPlace::At(place) => (place, 0),
-        RefusalPlace::StateAndAction(state, action) => (state as u64, action),
-    };
-    Row {
-        number: refusal.number(),
-        status: 0,
-        action,
-        turns: 0,
-        place,
+impl From<Result<(Status, u32), Refusal>> for Row {
+    fn from(answer: Result<(Status, u32), Refusal>) -> Row {
+        match answer {
+            Ok(told) => Row::from(told),
+            Err(refusal) => Row::from(refusal),
+        }
     }
 }
 
-pub(crate) fn answered(answer: Result<(Status, u32), Refusal>) -> Row {
-    match answer {
-        Ok(answer) => told(answer),
-        Err(refusal) => refused(refusal),
-    }
-}
-
-pub(crate) fn flag(answer: bool) -> Row {
-    Row {
-        number: 0,
-        status: answer as u8,
-        action: 0,
-        turns: 0,
-        place: 0,
-    }
-}
-
-pub(crate) fn whole() -> Row {
-    Row {
-        number: 0,
-        status: 0,
-        action: 0,
-        turns: 0,
-        place: 0,
+impl From<bool> for Row {
+    fn from(answer: bool) -> Row {
+        Row {
+            status: answer as u8,
+            ..Row::default()
+        }
     }
 }

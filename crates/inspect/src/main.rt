@@ -2,17 +2,20 @@
 #![tactic(auto)]
 
 use intake::read_at_most;
+use itertools::Itertools;
 use planning::refusal::Refusal;
 use planning::task::Task;
-use sheets::finite_domain::{FiniteDomainAction, read_finite_domain};
-use sheets::finite_domain_task::FiniteDomainTask;
+use sheets::finite_domain::{ANY, Variables};
 use sheets::head::{FiniteDomainHead, StripsHead};
+use sheets::kind::{Kind, SheetKind};
+use sheets::reading::{check, read};
 use sheets::record::{SheetRecord, record};
-use sheets::sheet::{SheetHead, read_head};
-use sheets::strips::{StripsAction, read_strips};
-use sheets::strips_task::StripsTask;
+use sheets::strips::Facts;
+use sheets::task::TaskOf;
 use std::alloc::{AllocError, Global};
+use std::fmt;
 
+// Kept: no plainer: the limits are those of this program, and another may have others.
 const MOST_BYTES: usize = 65536;
 
 const MOST_ACTIONS: usize = 512;
@@ -20,11 +23,9 @@ const MOST_ACTIONS: usize = 512;
 // A name comes from a stranger: what is not printable ASCII is written as \x and two digits.
 fn escaped(heap: Global, name: &[u8]) -> Result<String, AllocError> {
     let mut text = String::new(heap);
-    for b in name {
-        let byte = *b;
+    for &byte in name {
         if byte == b'\\' || byte < 0x20 || byte > 0x7e {
-            let hex = format!(in heap; "\\x{byte:02x}")?;
-            text.push_str(hex.as_str())?;
+            write!(text, "\\x{byte:02x}")?;
         } else {
             text.push(byte as char)?;
         }
@@ -32,52 +33,56 @@ fn escaped(heap: Global, name: &[u8]) -> Result<String, AllocError> {
     Ok(text)
 }
 
-// The facts of a set by their numbers, or a dash where there is none.
+// A list as it is printed: a dash where it is empty.
+fn or_dash(heap: Global, list: String) -> Result<String, AllocError> {
+    if list.is_empty() {
+        String::from_str(heap, "-")
+    } else {
+        Ok(list)
+    }
+}
+
+// The facts of a set by their numbers.
 fn facts_in(heap: Global, set: u32) -> Result<String, AllocError> {
-    let mut text = String::new(heap);
-    for i in 0u32..32 {
-        if set >> i & 1 == 1 {
-            let fact = format!(in heap; "{i}")?;
-            if !text.is_empty() {
-                text.push(',')?;
-            }
-            text.push_str(fact.as_str())?;
-        }
-    }
-    if text.is_empty() {
-        text.push('-')?;
-    }
-    Ok(text)
+    let mut facts = (0..32u32).filter(|fact| set.wrapping_shr(*fact) & 1 == 1);
+    or_dash(heap, facts.join(heap, ",")?)
 }
 
-// Variables and their values as `variable=value`, from the pairs of a list, or a dash where there is none.
-fn pairs_in(heap: Global, pairs: &[u8]) -> Result<String, AllocError> {
-    let mut text = String::new(heap);
-    for pair in pairs.chunks(2) {
-        if let [variable, value] = pair {
-            if !text.is_empty() {
-                text.push(',')?;
-            }
-            let named = format!(in heap; "{variable}={value}")?;
-            text.push_str(named.as_str())?;
-        }
-    }
-    if text.is_empty() {
-        text.push('-')?;
-    }
-    Ok(text)
+// A variable with a value.
+#[derive(Clone, Copy)]
+struct Assignment {
+    variable: usize,
+    value: u8,
 }
 
-// The same from a value for each variable, where 255 stands for any.
+impl fmt::Display for Assignment {
+    fn fmt<W: fmt::Write>(&self, f: &mut fmt::Formatter<W>) -> fmt::Result {
+        let Assignment { variable, value } = self;
+        write!(f, "{variable}={value}")
+    }
+}
+
+// The assignments of a list, each a variable and a value.
+fn pairs_in(heap: Global, list: &[u8]) -> Result<String, AllocError> {
+    let (pairs, _) = list.as_chunks::<2>();
+    let mut assignments = pairs.iter().map(|[variable, value]| Assignment {
+        variable: *variable as usize,
+        value: *value,
+    });
+    or_dash(heap, assignments.join(heap, ",")?)
+}
+
+// The same from a value for each variable, where ANY stands for any.
 fn values_in(heap: Global, values: &[u8]) -> Result<String, AllocError> {
-    let mut pairs = Vec::new(heap);
-    for (variable, value) in values.iter().enumerate() {
-        if *value != 255 && variable < 256 {
-            pairs.push(variable as u8)?;
-            pairs.push(*value)?;
-        }
-    }
-    pairs_in(heap, &pairs)
+    let mut assignments = values
+        .iter()
+        .enumerate()
+        .filter(|(_, value)| **value != ANY)
+        .map(|(variable, value)| Assignment {
+            variable,
+            value: *value,
+        });
+    or_dash(heap, assignments.join(heap, ",")?)
 }
 
 // One action: its number, price and name, what it needs and does, and whether it applies at the start.
@@ -143,81 +148,85 @@ fn show_refusal(rt: &HostRuntime, sheet: &[u8], refusal: Refusal) -> anyhow::Res
     Ok(())
 }
 
-fn show_strips(rt: &HostRuntime, sheet: &[u8], head: StripsHead) -> anyhow::Result<()> {
-    let heap = rt.alloc();
-    let none = StripsAction {
-        preconditions: 0,
-        adds: 0,
-        deletes: 0,
-    };
-    let mut actions = vec![in heap; none; MOST_ACTIONS]?;
-    let mut prices = vec![in heap; 0u32; MOST_ACTIONS]?;
-    if let Err(refusal) = read_strips(sheet, &mut actions, &mut prices) {
-        return show_refusal(rt, sheet, refusal);
+// A kind of sheet, by what is printed of its head.
+trait Inspected: SheetKind {
+    // What there is, the start and the goal.
+    fn show_head(rt: &HostRuntime, head: &Self::Head) -> anyhow::Result<()>;
+
+    // The state at the start.
+    fn start(head: &Self::Head) -> u32;
+}
+
+impl Inspected for Facts {
+    fn show_head(rt: &HostRuntime, head: &StripsHead) -> anyhow::Result<()> {
+        let heap = rt.alloc();
+        let facts = head.facts;
+        let count = head.actions;
+        let states = Facts::states(head);
+        let start = facts_in(heap, head.start)?;
+        let goal = facts_in(heap, head.goal)?;
+        println!(rt; "facts: {facts} facts, {count} actions, {states} states")?;
+        println!(rt; "start: {start}")?;
+        println!(rt; "goal: {goal}")?;
+        Ok(())
     }
-    let task = StripsTask::new(head, &actions, &prices);
-    let facts = head.facts;
-    let count = head.actions;
-    let states = task.states();
-    let start = facts_in(heap, head.start)?;
-    let goal = facts_in(heap, head.goal)?;
-    println!(rt; "facts: {facts} facts, {count} actions, {states} states")?;
-    println!(rt; "start: {start}")?;
-    println!(rt; "goal: {goal}")?;
-    show_actions(rt, sheet, &task, head.start)
+
+    fn start(head: &StripsHead) -> u32 {
+        head.start
+    }
 }
 
 // The values of the variables that there are.
+// Kept: no plainer: a head's lists have one length and one fixed memory, and are public.
 fn first(values: &[u8; 16], variables: u8) -> &[u8] {
-    let n = variables as usize;
-    if n < 16 { &values[0..n] } else { values }
+    values.get(..variables as usize).unwrap_or(values)
 }
 
-fn show_finite_domain(
-    rt: &HostRuntime,
-    sheet: &[u8],
-    head: FiniteDomainHead,
-) -> anyhow::Result<()> {
-    let heap = rt.alloc();
-    let none = FiniteDomainAction {
-        preconditions: [255; 16],
-        effects: [255; 16],
-    };
-    let mut actions = vec![in heap; none; MOST_ACTIONS]?;
-    let mut prices = vec![in heap; 0u32; MOST_ACTIONS]?;
-    if let Err(refusal) = read_finite_domain(sheet, &mut actions, &mut prices) {
+impl Inspected for Variables {
+    fn show_head(rt: &HostRuntime, head: &FiniteDomainHead) -> anyhow::Result<()> {
+        let heap = rt.alloc();
+        let variables = head.variables;
+        let count = head.actions;
+        let states = Variables::states(head);
+        let values = values_in(heap, first(&head.counts, variables))?;
+        let start = values_in(heap, first(&head.start, variables))?;
+        let goal = values_in(heap, first(&head.goal, variables))?;
+        println!(rt; "dials: {variables} variables, {count} actions, {states} states")?;
+        println!(rt; "values: {values}")?;
+        println!(rt; "start: {start}")?;
+        println!(rt; "goal: {goal}")?;
+        Ok(())
+    }
+
+    fn start(head: &FiniteDomainHead) -> u32 {
+        head.state_with(first(&head.start, head.variables))
+            .unwrap_or(0)
+    }
+}
+
+// A sheet of kind K: its head, and its actions.
+fn show_kind<K: Inspected>(rt: &HostRuntime, sheet: &[u8]) -> anyhow::Result<()> {
+    if let Err(refusal) = check::<K>(sheet) {
         return show_refusal(rt, sheet, refusal);
     }
-    let task = FiniteDomainTask::new(head, &actions, &prices);
-    let variables = head.variables;
-    let count = head.actions;
-    let states = head.states;
-    let values = values_in(heap, first(&head.counts, variables))?;
-    let start = values_in(heap, first(&head.start, variables))?;
-    let goal = values_in(heap, first(&head.goal, variables))?;
-    println!(rt; "dials: {variables} variables, {count} actions, {states} states")?;
-    println!(rt; "values: {values}")?;
-    println!(rt; "start: {start}")?;
-    println!(rt; "goal: {goal}")?;
-    show_actions(
-        rt,
-        sheet,
-        &task,
-        head.state_with(first(&head.start, variables)).unwrap_or(0),
-    )
-}
-
-fn show_head(rt: &HostRuntime, sheet: &[u8], head: SheetHead) -> anyhow::Result<()> {
-    match head {
-        SheetHead::Strips(strips) => show_strips(rt, sheet, strips),
-        SheetHead::FiniteDomain(variables) => show_finite_domain(rt, sheet, variables),
+    let heap = rt.alloc();
+    let mut actions = vec![in heap; K::blank(); MOST_ACTIONS]?;
+    let mut prices = vec![in heap; 0u32; MOST_ACTIONS]?;
+    match read::<K>(sheet, &mut actions, &mut prices) {
+        Ok(head) => {
+            K::show_head(rt, &head)?;
+            let task = TaskOf::<K>::new(head, &actions, &prices);
+            show_actions(rt, sheet, &task, K::start(&head))
+        }
+        Err(refusal) => show_refusal(rt, sheet, refusal),
     }
 }
 
 fn show_sheet(rt: &HostRuntime, sheet: &[u8]) -> anyhow::Result<()> {
-    match read_head(sheet) {
-        Ok(head) => show_head(rt, sheet, head),
-        Err(refusal) => show_refusal(rt, sheet, refusal),
+    // Kept: no plainer: a type parameter is chosen by a match, here with one call for each kind.
+    match Kind::of(sheet) {
+        Kind::Strips => show_kind::<Facts>(rt, sheet),
+        Kind::FiniteDomain => show_kind::<Variables>(rt, sheet),
     }
 }
 

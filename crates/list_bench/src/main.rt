@@ -9,6 +9,23 @@ use open_lists::heap::{Heap, Place};
 use planning::open_list::OpenList;
 use std::env;
 
+#[derive(Clone, Copy)]
+enum Kind {
+    Heap,
+    Flat,
+}
+
+// The lists, states and rounds of a run without arguments.
+const RUNS: [(Kind, u32, u32); 7] = [
+    (Kind::Heap, 64, 4096),
+    (Kind::Flat, 64, 4096),
+    (Kind::Heap, 1024, 4096),
+    (Kind::Flat, 1024, 4096),
+    (Kind::Heap, 65536, 64),
+    (Kind::Flat, 65536, 64),
+    (Kind::Heap, 65536, 65536),
+];
+
 // A stream of numbers that is the same in every run.
 #[derive(Drop)]
 struct Numbers {
@@ -82,43 +99,46 @@ fn work<L: OpenList<Cost = Coins>>(list: &mut L, rounds: u32) -> Tally {
     tally
 }
 
-fn report(rt: &impl Print, name: &str, states: u32, tally: Tally) -> anyhow::Result<()> {
+fn report<L: OpenList<Cost = Coins>>(
+    rt: &impl Print,
+    name: &str,
+    list: &mut L,
+    rounds: u32,
+) -> anyhow::Result<()> {
+    let states = list.capacity();
     let Tally {
         puts,
         takes,
         fronts,
-    } = tally;
+    } = work(list, rounds);
     println!(rt; "{name} of {states}: {puts} puts, {takes} takes, {fronts:016x}")?;
     Ok(())
 }
 
-fn run_heap(rt: &(impl Print + Alloc), states: u32, rounds: u32) -> anyhow::Result<()> {
-    let mut places = vec![in rt.alloc(); Place::<Coins>::blank(); states as usize]?;
-    let tally = work(&mut Heap::new(places.as_mut_slice()), rounds);
-    report(rt, "heap", states, tally)
-}
-
-fn run_flat(rt: &(impl Print + Alloc), states: u32, rounds: u32) -> anyhow::Result<()> {
-    let mut slots = vec![in rt.alloc(); Slot::<Coins>::blank(); states as usize]?;
-    let tally = work(&mut Flat::new(slots.as_mut_slice()), rounds);
-    report(rt, "flat", states, tally)
+// Kept: no plainer: the lists differ in the type of what is lent, which a trait could name only with the loan's lifetime.
+fn run(rt: &(impl Print + Alloc), kind: Kind, states: u32, rounds: u32) -> anyhow::Result<()> {
+    match kind {
+        Kind::Heap => {
+            let mut places = vec![in rt.alloc(); Place::<Coins>::blank(); states as usize]?;
+            report(rt, "heap", &mut Heap::new(places.as_mut_slice()), rounds)
+        }
+        Kind::Flat => {
+            let mut slots = vec![in rt.alloc(); Slot::<Coins>::blank(); states as usize]?;
+            report(rt, "flat", &mut Flat::new(slots.as_mut_slice()), rounds)
+        }
+    }
 }
 
 fn run_all(rt: &(impl Print + Alloc)) -> anyhow::Result<()> {
-    run_heap(rt, 64, 4096)?;
-    run_flat(rt, 64, 4096)?;
-    run_heap(rt, 1024, 4096)?;
-    run_flat(rt, 1024, 4096)?;
-    run_heap(rt, 65536, 64)?;
-    run_flat(rt, 65536, 64)?;
-    run_heap(rt, 65536, 65536)
+    for (kind, states, rounds) in RUNS {
+        run(rt, kind, states, rounds)?;
+    }
+    Ok(())
 }
 
 fn number(word: Option<String>) -> anyhow::Result<u32> {
-    match word {
-        Some(digits) => Ok(digits.as_str().parse::<u32>()?),
-        None => Err(anyhow!("heap or flat, states, rounds")),
-    }
+    let digits = word.ok_or_else(|| anyhow!("heap or flat, states, rounds"))?;
+    Ok(digits.as_str().parse::<u32>()?)
 }
 
 fn main(rt: HostRuntime) -> anyhow::Result<()> {
@@ -126,11 +146,11 @@ fn main(rt: HostRuntime) -> anyhow::Result<()> {
     let Some(list) = words.next() else {
         return run_all(&rt);
     };
+    let kind = match list.as_str() {
+        "flat" => Kind::Flat,
+        _ => Kind::Heap,
+    };
     let states = number(words.next())?;
     let rounds = number(words.next())?;
-    if list.as_str() == "flat" {
-        run_flat(&rt, states, rounds)
-    } else {
-        run_heap(&rt, states, rounds)
-    }
+    run(&rt, kind, states, rounds)
 }

@@ -6,17 +6,18 @@ use anyhow::anyhow;
 use costs::coins::Coins;
 use intake::read_at_most;
 use open_lists::heap::Place;
-use planning::cost::{CostAlgebra, Record};
+use planning::cost::Record;
 use planning::refusal::Refusal;
 use planning::task::Task;
 use questions::input::{Asked, split};
 use questions::line::{write_line, write_refused};
-use sheets::finite_domain::{FiniteDomainAction, read_finite_domain};
-use sheets::finite_domain_task::FiniteDomainTask;
-use sheets::sheet::{SheetHead, read_head};
-use sheets::strips::{StripsAction, read_strips};
-use sheets::strips_task::StripsTask;
+use sheets::finite_domain::Variables;
+use sheets::kind::{Kind, SheetKind};
+use sheets::reading::{check, read};
+use sheets::strips::Facts;
+use sheets::task::TaskOf;
 
+// Kept: no plainer: the limits are those of this program, and another may have others.
 const MOST_BYTES: usize = 65536;
 
 const MOST_ACTIONS: usize = 512;
@@ -25,17 +26,14 @@ const MOST_ACTIONS: usize = 512;
 const STATES: usize = 1024;
 
 // Prints a line that was written into a buffer.
+// Kept: a rule of the project: a line is made by a public call into a buffer, which answers how much of it is the line.
 fn show(rt: &HostRuntime, buffer: &[u8], written: Result<usize, Refusal>) -> anyhow::Result<()> {
-    let Ok(n) = written else {
-        return Err(anyhow!("a line did not fit its buffer"));
-    };
-    let Some(line) = buffer.get(0..n) else {
-        return Err(anyhow!("a line did not fit its buffer"));
-    };
-    match std::str::from_utf8(line) {
-        Ok(text) => rt.print(text)?,
-        Err(_) => return Err(anyhow!("a line is not text")),
-    }
+    let line = written
+        .ok()
+        .and_then(|n| buffer.get(..n))
+        .ok_or_else(|| anyhow!("a line did not fit its buffer"))?;
+    let text = std::str::from_utf8(line).map_err(|_| anyhow!("a line is not text"))?;
+    rt.print(text)?;
     Ok(())
 }
 
@@ -48,17 +46,9 @@ fn show_refused(rt: &HostRuntime, refusal: Refusal) -> anyhow::Result<()> {
 // Each question of an input about its task.
 fn show_answers<T: Task>(rt: &HostRuntime, task: &T, asked: Asked<'_>) -> anyhow::Result<()> {
     let heap = rt.alloc();
-    let unknown = Record {
-        cost: Coins::zero(),
-        tagged: false,
-        known: false,
-    };
-    let mut table = vec![in heap; unknown; STATES]?;
+    let mut table = vec![in heap; Record::<Coins>::unknown(); STATES]?;
     let mut places = vec![in heap; Place::<Coins>::blank(); STATES]?;
-    for number in 0..asked.count {
-        let Some(question) = asked.question(number) else {
-            break;
-        };
+    for question in (0..asked.count).filter_map(|number| asked.question(number)) {
         let state = question.state;
         let action = question.action;
         let given = answer(task, &mut places, &mut table, state, action);
@@ -69,46 +59,25 @@ fn show_answers<T: Task>(rt: &HostRuntime, task: &T, asked: Asked<'_>) -> anyhow
     Ok(())
 }
 
-fn show_strips(rt: &HostRuntime, asked: Asked<'_>) -> anyhow::Result<()> {
-    let heap = rt.alloc();
-    let none = StripsAction {
-        preconditions: 0,
-        adds: 0,
-        deletes: 0,
-    };
-    let mut actions = vec![in heap; none; MOST_ACTIONS]?;
-    let mut prices = vec![in heap; 0u32; MOST_ACTIONS]?;
-    match read_strips(asked.sheet, &mut actions, &mut prices) {
-        Ok(head) => show_answers(rt, &StripsTask::new(head, &actions, &prices), asked),
-        Err(refusal) => show_refused(rt, refusal),
+// A sheet of kind K, and the questions about it.
+fn show_kind<K: SheetKind>(rt: &HostRuntime, asked: Asked<'_>) -> anyhow::Result<()> {
+    if let Err(refusal) = check::<K>(asked.sheet) {
+        return show_refused(rt, refusal);
     }
-}
-
-fn show_finite_domain(rt: &HostRuntime, asked: Asked<'_>) -> anyhow::Result<()> {
     let heap = rt.alloc();
-    let none = FiniteDomainAction {
-        preconditions: [255; 16],
-        effects: [255; 16],
-    };
-    let mut actions = vec![in heap; none; MOST_ACTIONS]?;
+    let mut actions = vec![in heap; K::blank(); MOST_ACTIONS]?;
     let mut prices = vec![in heap; 0u32; MOST_ACTIONS]?;
-    match read_finite_domain(asked.sheet, &mut actions, &mut prices) {
-        Ok(head) => show_answers(rt, &FiniteDomainTask::new(head, &actions, &prices), asked),
+    match read::<K>(asked.sheet, &mut actions, &mut prices) {
+        Ok(head) => show_answers(rt, &TaskOf::<K>::new(head, &actions, &prices), asked),
         Err(refusal) => show_refused(rt, refusal),
-    }
-}
-
-fn show_head(rt: &HostRuntime, asked: Asked<'_>, head: SheetHead) -> anyhow::Result<()> {
-    match head {
-        SheetHead::Strips(_) => show_strips(rt, asked),
-        SheetHead::FiniteDomain(_) => show_finite_domain(rt, asked),
     }
 }
 
 fn show_sheet(rt: &HostRuntime, asked: Asked<'_>) -> anyhow::Result<()> {
-    match read_head(asked.sheet) {
-        Ok(head) => show_head(rt, asked, head),
-        Err(refusal) => show_refused(rt, refusal),
+    // Kept: no plainer: a type parameter is chosen by a match, here with one call for each kind.
+    match Kind::of(asked.sheet) {
+        Kind::Strips => show_kind::<Facts>(rt, asked),
+        Kind::FiniteDomain => show_kind::<Variables>(rt, asked),
     }
 }
 

@@ -6,13 +6,15 @@ mod tests {
     use answers::answer;
     use costs::coins::Coins;
     use open_lists::heap::Place;
-    use planning::cost::{CostAlgebra, Record};
+    use planning::cost::Record;
     use planning::refusal::{Place as RefusalPlace, Refusal};
     use planning::status::Status;
     use planning::task::Task;
     use questions::input::split;
     use questions::line::{write_line, write_refused};
-    use sheets::strips::{StripsAction, read_strips};
+    use sheets::kind::SheetKind;
+    use sheets::reading::read;
+    use sheets::strips::Facts;
     use sheets::strips_task::StripsTask;
     use std::test::Fail;
 
@@ -24,19 +26,11 @@ mod tests {
 
     // Whether the first bytes of a buffer are these.
     fn begins(buffer: &[u8], written: Result<usize, Refusal>, line: &[u8]) -> bool {
-        match written {
-            Ok(n) => n == line.len() && buffer.get(0..n) == Some(line),
-            Err(_) => false,
-        }
+        written.is_ok_and(|n| buffer.get(..n) == Some(line))
     }
 
     fn answered<T: Task>(task: &T, state: u32, action: u16) -> Result<Status, Refusal> {
-        let unknown = Record {
-            cost: Coins::zero(),
-            tagged: false,
-            known: false,
-        };
-        let mut table = [unknown; 2];
+        let mut table = [Record::<Coins>::unknown(); 2];
         let mut places = [Place::<Coins>::blank(); 2];
         answer(task, &mut places, &mut table, state, action)
     }
@@ -45,14 +39,9 @@ mod tests {
     #[test]
     fn from_input_to_lines(rt: HostRuntime) -> Result<(), Fail> {
         let asked = split(&INPUT)?;
-        let none = StripsAction {
-            preconditions: 0,
-            adds: 0,
-            deletes: 0,
-        };
-        let mut actions = [none; 1];
+        let mut actions = [Facts::blank(); 1];
         let mut prices = [0; 1];
-        let head = read_strips(asked.sheet, &mut actions, &mut prices)?;
+        let head = read::<Facts>(asked.sheet, &mut actions, &mut prices)?;
         let task = StripsTask::new(head, &actions, &prices);
         let mut buffer = [0; 32];
         let first = asked.question(0).ok_or("no question")?;

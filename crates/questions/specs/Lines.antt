@@ -1,18 +1,10 @@
 -- The line that answers a question: state and action in decimal, then the status or "refused" and the number.
 use Rattle.std.specs.Prelude.{◌≡◌, ℕ, ◌<◌, ◌≤◌, List, [], ◌∷◌, ◌++◌, length, drop, Ok, Err, codes, decimal, Result}
 use Rattle.planning.specs.Refusals.{number_of}
+use Rattle.planning.specs.Statuses.{word_of}
 use Rattle.planning.specs.declared.refusal.Refusal.{Refusal}
 use Rattle.planning.specs.declared.refusal.Refusal.TheVariants.{Short}
 use Rattle.planning.specs.declared.status.Status.{Status}
-use Rattle.planning.specs.declared.status.Status.TheVariants.{Fresh, Open, Best, Other, Stuck, Spent}
-
-abbrev pub word_of : Status → List ℕ
-word_of Fresh = codes "fresh"
-word_of Open = codes "open"
-word_of Best = codes "best"
-word_of Other = codes "other"
-word_of Stuck = codes "stuck"
-word_of Spent = codes "spent"
 
 abbrev pub refused_of : Refusal → List ℕ
 refused_of r = codes "refused " ++ decimal (number_of r)

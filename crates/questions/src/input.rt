@@ -1,10 +1,11 @@
 // A sheet and questions about it, in one input.
-ghost use Rattle.std.specs.Prelude.{◌+◌, ◌≤◌, length};
+ghost use Rattle.std.specs.Prelude.{◌+◌, ◌<◌, length, MatchOption};
 ghost use Rattle.questions.specs.Input.{Split, QuestionAt, QuestionOf};
 
 use planning::refusal::Refusal;
 
 // An input, the sheet in it, how many questions follow, and where the first begins.
+// Kept: no plainer: the questions are asked for by number, and each is told with its place in the input.
 #[derive(Clone, Copy)]
 pub struct Asked<'a> {
     pub input: &'a [u8],
@@ -26,41 +27,37 @@ pub struct Question<'a> {
 pub fn split(input: &[u8]) -> Result<Asked<'_>, Refusal>
     ensures { Split input.now result }
 {
-    let given = input.len();
+    let refusal = Refusal::Length { given: input.len() };
     let [_, l3, l2, l1, l0, ..] = input else {
-        return Err(Refusal::Length { given });
+        return Err(refusal);
     };
     let end = u32::from_be_bytes([*l3, *l2, *l1, *l0]) as usize;
-    if given < end + 2 {
-        return Err(Refusal::Length { given });
-    }
-    let count = u16::from_be_bytes([input[end], input[end + 1]]);
-    if given != end + 2 + 6 * count as usize {
-        return Err(Refusal::Length { given });
+    let (sheet, rest) = input.split_at_checked(end).ok_or(refusal)?;
+    let (count, questions) = rest.split_first_chunk::<2>().ok_or(refusal)?;
+    let count = u16::from_be_bytes(*count);
+    if questions.len() != 6 * count as usize {
+        return Err(refusal);
     }
     Ok(Asked {
         input,
-        sheet: &input[0..end],
+        sheet,
         count,
         place: end + 2,
     })
 }
 
-fn question_at(input: &[u8], place: usize) -> Question<'_>
-    requires { place + 6 ≤ length input.now }
-    ensures { QuestionAt input.now place result }
+// The question at a place of an input, if all of it is there.
+fn question_at(input: &[u8], place: usize) -> Option<Question<'_>>
+    ensures { MatchOption result (length input.now < place + 6) (QuestionAt input.now place) }
 {
-    Question {
+    let bytes = input.get(place..)?.first_chunk::<6>()?;
+    let [s3, s2, s1, s0, a1, a0] = *bytes;
+    Some(Question {
         place,
-        bytes: &input[place..place + 6],
-        state: u32::from_be_bytes([
-            input[place],
-            input[place + 1],
-            input[place + 2],
-            input[place + 3],
-        ]),
-        action: u16::from_be_bytes([input[place + 4], input[place + 5]]),
-    }
+        bytes,
+        state: u32::from_be_bytes([s3, s2, s1, s0]),
+        action: u16::from_be_bytes([a1, a0]),
+    })
 }
 
 impl<'a> Asked<'a> {
@@ -68,11 +65,9 @@ impl<'a> Asked<'a> {
     pub fn question(&self, number: u16) -> Option<Question<'a>>
         ensures { QuestionOf self.now number result }
     {
-        let before = 6 * number as usize;
-        let given = self.input.len();
-        if number >= self.count || given < before + 6 || given - before - 6 < self.place {
+        if number >= self.count {
             return None;
         }
-        Some(question_at(self.input, self.place + before))
+        question_at(self.input, self.place.checked_add(6 * number as usize)?)
     }
 }

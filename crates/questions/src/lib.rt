@@ -3,4 +3,3 @@
 
 pub mod input;
 pub mod line;
-mod text;

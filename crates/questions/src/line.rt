@@ -1,65 +1,74 @@
 // The lines that answer questions.
 ghost use Rattle.std.specs.Prelude.{◌≡◌, ◌+◌, ◌≤◌, [], ◌∷◌, ◌++◌, length, decimal};
-ghost use Rattle.questions.specs.Lines.{word_of, refused_of, answer_of, line_of, refused_line, Delivered};
-ghost use Rattle.questions.specs.Texts.{written};
+ghost use Rattle.arrayvec.specs.ArrayString.{array_string_len};
+ghost use Rattle.questions.specs.Lines.{refused_of, answer_of, line_of, refused_line, Delivered};
 
-use crate::text::Text;
+use arrayvec::ArrayString;
+use itoa::Buffer;
 use planning::refusal::Refusal;
 use planning::status::Status;
 
-fn word(status: Status) -> &'static [u8]
-    ensures { result.now ≡ word_of status }
+// The text of a line, of 32 bytes at most.
+type Line = ArrayString<32>;
+
+// Kept: no plainer: each function has a bound of its own on the text before and after, so that no type holds them.
+
+// In decimal, with no leading zero.
+fn push_number(text: &mut Line, number: u32)
+    requires { array_string_len text.old + length (decimal number) ≤ 32 }
+    ensures bytes { text.new.bytes ≡ text.old.bytes ++ decimal number }
+    ensures len { array_string_len text.new ≡ array_string_len text.old + length (decimal number) }
 {
-    match status {
-        Status::Fresh => b"fresh",
-        Status::Open => b"open",
-        Status::Best => b"best",
-        Status::Other => b"other",
-        Status::Stuck => b"stuck",
-        Status::Spent => b"spent",
-    }
+    text.push_str(Buffer::new().format(number));
 }
 
-fn push_refused(text: &mut Text, refusal: Refusal)
-    requires { text.old.len ≤ 21 }
-    ensures { (written text.new ≡ written text.old ++ refused_of refusal) × (text.new.len ≤ text.old.len + 11) }
+#[tactic(auto, using(crate::proofs::Digits::three_digits))]
+fn push_refused(text: &mut Line, refusal: Refusal)
+    requires { array_string_len text.old ≤ 21 }
+    ensures bytes { text.new.bytes ≡ text.old.bytes ++ refused_of refusal }
+    ensures len { array_string_len text.new ≤ array_string_len text.old + 11 }
 {
-    text.push_all(b"refused ");
-    text.push_number(refusal.number() as u32);
+    text.push_str("refused ");
+    push_number(text, refusal.number() as u32);
 }
 
-fn push_answer(text: &mut Text, answer: Result<Status, Refusal>)
-    requires { text.old.len ≤ 20 }
-    ensures { (written text.new ≡ written text.old ++ answer_of answer) × (text.new.len ≤ text.old.len + 11) }
+fn push_answer(text: &mut Line, answer: Result<Status, Refusal>)
+    requires { array_string_len text.old ≤ 20 }
+    ensures bytes { text.new.bytes ≡ text.old.bytes ++ answer_of answer }
+    ensures len { array_string_len text.new ≤ array_string_len text.old + 11 }
 {
     match answer {
-        Ok(status) => text.push_all(word(status)),
+        Ok(status) => text.push_str(status.word()),
         Err(refusal) => push_refused(text, refusal),
     }
 }
 
-fn deliver(text: &Text, buffer: &mut [u8]) -> Result<usize, Refusal>
-    requires { text.now.len ≤ 32 }
-    ensures { Delivered (written text.now) buffer.old buffer.new result }
+fn deliver(text: &Line, buffer: &mut [u8]) -> Result<usize, Refusal>
+    ensures { Delivered text.now.bytes buffer.old buffer.new result }
 {
     if buffer.len() < 32 {
         return Err(Refusal::Short { needed: 32 });
     }
-    buffer[0..text.len].copy_from_slice(&text.bytes[0..text.len]);
-    Ok(text.len)
+    let line = text.as_str().as_bytes();
+    buffer[..line.len()].copy_from_slice(line);
+    Ok(line.len())
 }
 
 // The state and the action that a line is about, each with a blank behind it.
-fn subject(state: u32, action: u16) -> Text
-    ensures { (written result ≡ decimal state ++ (32 ∷ (decimal action ++ (32 ∷ [])))) × (result.len ≤ 17) }
+#[tactic(auto, using(crate::proofs::Digits::ten_digits, crate::proofs::Digits::five_digits))]
+fn subject(state: u32, action: u16) -> Line
+    ensures bytes { result.bytes ≡ decimal state ++ (32 ∷ (decimal action ++ (32 ∷ []))) }
+    ensures len { array_string_len result ≤ 17 }
 {
-    let mut text = Text::new();
-    text.push_number(state);
-    text.push(b' ');
-    text.push_number(action as u32);
-    text.push(b' ');
+    let mut text = Line::new();
+    push_number(&mut text, state);
+    text.push_str(" ");
+    push_number(&mut text, action as u32);
+    text.push_str(" ");
     text
 }
+
+// Kept: a rule of the project: a line goes into the caller's buffer of 32 bytes or more, and its length is answered.
 
 // The line that answers a question, into a buffer of 32 bytes or more; answers its length.
 pub fn write_line(
@@ -72,7 +81,7 @@ pub fn write_line(
 {
     let mut text = subject(state, action);
     push_answer(&mut text, answer);
-    text.push(b'\n');
+    text.push_str("\n");
     deliver(&text, buffer)
 }
 
@@ -80,8 +89,8 @@ pub fn write_line(
 pub fn write_refused(buffer: &mut [u8], refusal: Refusal) -> Result<usize, Refusal>
     ensures { Delivered (refused_line refusal) buffer.old buffer.new result }
 {
-    let mut text = Text::new();
+    let mut text = Line::new();
     push_refused(&mut text, refusal);
-    text.push(b'\n');
+    text.push_str("\n");
     deliver(&text, buffer)
 }

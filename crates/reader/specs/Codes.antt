@@ -1,8 +1,6 @@
 -- How an answer crosses to C: a code and a place.
 use Rattle.std.specs.Prelude.{◌≡◌, ℕ, min, List, ◌++◌, length, take, drop, Ok, Err, Result}
-use Rattle.planning.specs.Refusals.{number_of, place_of}
-use Rattle.planning.specs.declared.refusal.Place.{Place}
-use Rattle.planning.specs.declared.refusal.Place.TheVariants.{At, StateAndAction}
+use Rattle.planning.specs.Refusals.{number_of, place_of, number_of_place}
 use Rattle.planning.specs.declared.refusal.Refusal.{Refusal}
 use Rattle.planning.specs.declared.status.Status.{Status}
 use Rattle.planning.specs.declared.status.Status.TheVariants.{Fresh, Open, Best, Other, Stuck, Spent}
@@ -18,11 +16,6 @@ code_of_verdict Stuck = 103
 code_of_verdict Fresh = 104
 code_of_verdict Open = 105
 code_of_verdict Spent = 106
-
--- the number of a refusal's place; of a state and an action the state
-abbrev pub number_of_place : Place → ℕ
-number_of_place (At n) = n
-number_of_place (StateAndAction state action) = state
 
 -- a code and a place for an answer: the number and the place of a refusal, or what stands for the value and place 0
 abbrev pub Coded : {X : Type 0} → (X → ℕ) → Result X Refusal → ℕ → ℕ → Type 0

@@ -1,22 +1,14 @@
 // The functions of the C header, over numbers and bytes. None has a precondition.
 ghost use Rattle.std.specs.Prelude.{◌≡◌, length};
 ghost use Rattle.planning.specs.Refusals.{sentence_of};
-ghost use Rattle.reader.specs.Codes.{number_of_place, code_of_verdict, Checked, Marked, Copied};
+ghost use Rattle.reader.specs.Codes.{code_of_verdict, Coded, Checked, Marked, Copied};
 
 use crate::verdict::answer_sheet;
-use planning::refusal::{Place, Refusal, sentence};
+use planning::refusal::{Refusal, sentence};
 use planning::status::Status;
 use sheets::sheet::read_head;
 
-fn place_number(place: Place) -> u64
-    ensures { result ≡ number_of_place place }
-{
-    match place {
-        Place::At(n) => n,
-        Place::StateAndAction(state, _) => state as u64,
-    }
-}
-
+// Kept: the C interface: a verdict crosses as one of the numbers of the C header.
 fn verdict_code(status: Status) -> u8
     ensures { result ≡ code_of_verdict status }
 {
@@ -30,21 +22,26 @@ fn verdict_code(status: Status) -> u8
     }
 }
 
+// Kept: the C interface: an answer crosses as one number, with a place beside it.
+
+// An answer's code, or the number of its refusal, with the place of the refusal, or 0.
+fn coded(answer: Result<u8, Refusal>, place: &mut u64) -> u8
+    ensures { Coded (λ code. code) answer result place.new }
+{
+    let (code, at) = match answer {
+        Ok(code) => (code, 0),
+        Err(refusal) => (refusal.number(), refusal.place().number()),
+    };
+    *place = at;
+    code
+}
+
 // A sheet of either kind: 0 where it is whole, else the number of its refusal, with the place.
 #[unsafe(no_mangle)]
 pub extern "C" fn lekruvas_check(sheet: &[u8], place: &mut u64) -> u8
     ensures { Checked sheet.now result place.new }
 {
-    match read_head(sheet) {
-        Ok(_) => {
-            *place = 0;
-            0
-        }
-        Err(refusal) => {
-            *place = place_number(refusal.place());
-            refusal.number()
-        }
-    }
+    coded(read_head(sheet).map(|_| 0), place)
 }
 
 // A question about a sheet: 101 best, 102 other, 103 stuck, or the number of a refusal, with its place.
@@ -52,16 +49,7 @@ pub extern "C" fn lekruvas_check(sheet: &[u8], place: &mut u64) -> u8
 pub extern "C" fn lekruvas_mark(sheet: &[u8], state: u32, action: u16, place: &mut u64) -> u8
     ensures { Marked sheet.now state action result place.new }
 {
-    match answer_sheet(sheet, state, action) {
-        Ok(status) => {
-            *place = 0;
-            verdict_code(status)
-        }
-        Err(refusal) => {
-            *place = place_number(refusal.place());
-            refusal.number()
-        }
-    }
+    coded(answer_sheet(sheet, state, action).map(verdict_code), place)
 }
 
 // What a refusal of this number means, in English: as much as fits into the buffer. Answers the length of all of it.

@@ -1,10 +1,10 @@
 -- The head of a sheet of variables: what its checks say, in order.
-use Rattle.std.proofs.Common.{◌≡◌, ℕ, suc, ◌+◌, ◌*◌, ◌<◌, ◌≤◌, min, Bool, true, false, ◌&&◌, ◌||◌, eqb, ltb, leb, ◌⊎◌, List, [], ◌∷◌, ◌++◌, length, get_or, drop, Some, None, sym, refl, ap, ◌∙◌, subst, inl, inr, ⊎_elim, mul-le-mul_right, mul_assoc, arith}
+use Rattle.std.proofs.Common.{◌≡◌, ℕ, zero, suc, ◌+◌, ◌*◌, ◌<◌, ◌≤◌, min, Bool, true, false, ◌&&◌, ◌||◌, eqb, ltb, leb, ◌⊎◌, List, [], ◌∷◌, ◌++◌, length, Some, None, sym, refl, ap, ◌∙◌, inl, inr, ⊎_elim, mul-le-mul_right, mul_assoc, arith}
+use Rattle.std.proofs.Math.Nat.{mul-zero}
 use Rattle.std.specs.List.{AllByRecursion, AllZip}
-use Rattle.std.proofs.lemmas.List.{at_drop_more, at_drop_all, drop_more}
 use Rattle.std.proofs.lemmas.Bool.{cases_lt, lt-leb, and_parts, and_from, or_cases, or_left, or_right, leb-true, le-leb, ltb-true, lt-ltb, eqb-true, eq-eqb}
 use Rattle.planning.specs.declared.refusal.Refusal.{Refusal}
-use Rattle.planning.specs.declared.refusal.Refusal.TheVariants.{Count, StartOrGoal}
+use Rattle.planning.specs.declared.refusal.Refusal.TheVariants.{Count}
 use Rattle.planning.specs.Checks.{Check, otherwise, first_failing}
 use Rattle.planning.proofs.Rows.{passed, pass, fail, after, within, front}
 use Rattle.sheet_layout.specs.FiniteDomain.{ValidCount, product, counts_checks, values_checks, value_or_any, finite_domain_head}
@@ -129,23 +129,6 @@ module _ (variables actions : ℕ) (counts start goal : List ℕ) where
       ∙ after (values_checks ltb counts start (9 + variables)) _ (values_pass ltb (λ v n. v < n) lt-ltb counts start (9 + variables) h.start)
       ∙ values_pass value_or_any (λ v n. (v < n) ⊎ (v ≡ 255)) goal_holds counts goal (9 + 2 * variables) h.goal
 
--- the checks of the lists from their i-th element on
-pub counts_on : (ns : List ℕ) (i p : ℕ) → i < length ns → first_failing (counts_checks (drop i ns) p) ≡ otherwise (leb 2 (get_or ns i 0) && leb (get_or ns i 0) 16) (Count p) (first_failing (counts_checks (drop (i + 1) ns) (p + 1)))
-counts_on ns i p h = at_drop_more (λ l. first_failing (counts_checks l p)) ns i 0 h
-
-pub counts_end : (ns : List ℕ) (i p : ℕ) → length ns ≤ i → first_failing (counts_checks (drop i ns) p) ≡ None
-counts_end ns i p h = at_drop_all (λ l. first_failing (counts_checks l p)) ns i h
-
-module _ (passing : ℕ → ℕ → Bool) (ns vs : List ℕ) (same : length vs ≡ length ns) where
-  pub values_on : (i p : ℕ) → i < length ns → first_failing (values_checks passing (drop i ns) (drop i vs) p) ≡ otherwise (passing (get_or vs i 0) (get_or ns i 0)) (StartOrGoal p) (first_failing (values_checks passing (drop (i + 1) ns) (drop (i + 1) vs) (p + 1)))
-  values_on i p h =
-      let a = drop_more ns i 0 h in
-      let b = drop_more vs i 0 (omega arith) in
-      λ j. first_failing (values_checks passing (a j) (b j) p)
-
-  pub values_end : (i p : ℕ) → length ns ≤ i → first_failing (values_checks passing (drop i ns) (drop i vs) p) ≡ None
-  values_end i p h = at_drop_all (λ l. first_failing (values_checks passing l (drop i vs) p)) ns i h
-
 -- where no value stands for any, the test is the plain one
 pub values_plain : (ns vs : List ℕ) (p : ℕ) → values_checks (λ v n. ltb v n || (false && eqb v 255)) ns vs p ≡ values_checks ltb ns vs p
 values_plain ns vs p = λ i. values_checks (λ v n. or_false (ltb v n) i) ns vs p
@@ -188,21 +171,16 @@ product_some (n ∷ ns) v =
     omega (arith, mul-le-mul_right (product ns) some)
 
 -- a product that stops at a bound on the way stops there at the end
-pub capped : (s n p : ℕ) → 1 ≤ p → min (min (s * n) 65537 * p) 65537 ≡ min (s * (n * p)) 65537
-capped s n p some =
+pub capped : (s n p : ℕ) → min (min (s * n) 65537 * p) 65537 ≡ min (s * (n * p)) 65537
+capped s n zero = ap (λ k. min k 65537) (mul-zero (min (s * n) 65537) ∙ sym (ap (λ k. s * k) (mul-zero n) ∙ mul-zero s))
+capped s n (suc p) =
     ⊎_elim
-    (λ (le : s * n < 65537). let e : min (s * n) 65537 ≡ s * n = omega arith in ap (λ k. min (k * p) 65537) e ∙ ap (λ k. min k 65537) (mul_assoc s n p))
+    (λ (le : s * n < 65537). let e : min (s * n) 65537 ≡ s * n = omega arith in ap (λ k. min (k * suc p) 65537) e ∙ ap (λ k. min k 65537) (mul_assoc s n (suc p)))
     (λ (ge : 65537 ≤ s * n).
     let e : min (s * n) 65537 ≡ 65537 = omega arith in
-    let f = mul-le-mul_right p ge in
-    ap (λ k. min (k * p) 65537) e ∙ omega (arith, f, mul_assoc s n p))
+    let f = mul-le-mul_right (suc p) ge in
+    ap (λ k. min (k * suc p) 65537) e ∙ omega (arith, f, mul_assoc s n (suc p)))
     (cases_lt (s * n) 65537)
-
-pub every_drop : (P : ℕ → Type 0) (ns : List ℕ) (i : ℕ) → i < length ns → AllByRecursion P (drop i ns) → P (get_or ns i 0) × AllByRecursion P (drop (i + 1) ns)
-every_drop P ns i h e = subst (AllByRecursion P) (drop_more ns i 0 h) e
-
-pub counted_valid : (ns : List ℕ) → first_failing (counts_checks ns 9) ≡ None → AllByRecursion ValidCount ns
-counted_valid ns h = counts_passed ns 9 h
 
 -- values pass exactly when each is below its variable's number of values
 pub plain_passed : (ns vs : List ℕ) (p : ℕ) → length vs ≡ length ns → first_failing (values_checks (λ v n. ltb v n || (false && eqb v 255)) ns vs p) ≡ None → AllZip (λ v n. v < n) vs ns

@@ -5,13 +5,13 @@ use Rattle.std.proofs.lemmas.List.{drop-drop, take_at}
 use Rattle.std.proofs.lemmas.Bool.{and_from, le-leb, cond-true}
 use Rattle.planning.specs.Checks.{first_failing}
 use Rattle.planning.proofs.Rows.{after, front}
-use Rattle.sheet_layout.specs.Frame.{ValidAction, record_bytes, records_checks, head_of, length_of_head, sheet_bytes}
+use Rattle.sheet_layout.specs.Frame.{ValidAction, record_bytes, records_checks, head_of, length_of_head, sheet_bytes, actions_from}
 use Rattle.sheet_layout.specs.Numbers.{Bytes, byte_at, num16}
 use Rattle.sheet_layout.specs.FiniteDomain.{FiniteDomainContent, ValidAssignments, ValidFiniteDomain, assignments_bytes, finite_domain_bytes, finite_domain_kind, finite_domain_head, finite_domain_head_checks, finite_domain_checks, read_assignments, part}
 use Rattle.sheet_layout.proofs.Assigning.{counts_of, part_length, assignments_short, assignments_decode}
 use Rattle.sheet_layout.proofs.Bytewise.{past}
 use Rattle.sheet_layout.proofs.FiniteDomainHeads.{HeadPassed, size_passed, head_passed, head_pass, each_length}
-use Rattle.sheet_layout.proofs.Framing.{actions_from, records_sound, records_complete}
+use Rattle.sheet_layout.proofs.Framing.{records_sound, records_complete}
 use Rattle.sheet_layout.proofs.Opening.{OpeningPassed, opening_passed, opening_pass, opening_written, whole, records_short}
 
 -- where the records begin

@@ -5,7 +5,7 @@ use Rattle.std.proofs.lemmas.List.{drop-drop, take_at, length-take-le, get_or-ta
 use Rattle.std.proofs.lemmas.Bool.{and_parts, and_from, leb-true, le-leb, cases_lt}
 use Rattle.planning.specs.declared.refusal.Refusal.TheVariants.{Frame}
 use Rattle.planning.specs.Checks.{Check, first_failing}
-use Rattle.sheet_layout.specs.Frame.{Action, ValidAction, KindOf, record_bytes, record_end, record_place, framed, record_checks, records_checks}
+use Rattle.sheet_layout.specs.Frame.{Action, ValidAction, KindOf, record_bytes, record_end, record_place, framed, record_checks, records_checks, action_at, actions_from}
 use Rattle.sheet_layout.specs.Numbers.{Bytes, be16, be32, num16, num32}
 use Rattle.sheet_layout.proofs.Bytewise.{read16, read32, written16, written32, past}
 use Rattle.planning.proofs.Rows.{passed, pass}
@@ -15,19 +15,6 @@ pub record Decodes {C : Type 0} (k : KindOf) (layout : C → List ℕ) (Valid : 
   pub sound : (p e : ℕ) → k.fits bs p e ≡ true → k.ending bs p < e → e ≤ length bs → k.present bs p ≡ true → (layout (read bs p) ++ drop (k.ending bs p) bs ≡ drop p bs) × Valid (read bs p) × (p + length (layout (read bs p)) ≡ k.ending bs p)
   pub complete : (p e : ℕ) (c : C) (rest : List ℕ) → Valid c → drop p bs ≡ layout c ++ rest → p + length (layout c) ≤ e → (k.fits bs p e ≡ true) × (k.ending bs p ≡ p + length (layout c)) × (k.present bs p ≡ true) × (read bs p ≡ c)
   pub short : (c : C) → Valid c → length (layout c) ≤ 66
-
--- the action whose record stands at p
-abbrev pub action_at : {C : Type 0} → KindOf → (List ℕ → ℕ → C) → List ℕ → ℕ → Action C
-action_at k read bs p = record {
-  coins = num32 bs (p + 2);
-  does = read bs (p + 6);
-  name = take (record_end bs p - k.ending bs (p + 6)) (drop (k.ending bs (p + 6)) bs);
-}
-
--- n actions, from the record at p on
-abbrev pub actions_from : {C : Type 0} → KindOf → (List ℕ → ℕ → C) → List ℕ → ℕ → ℕ → List (Action C)
-actions_from k read bs zero p = []
-actions_from k read bs (suc n) p = action_at k read bs p ∷ actions_from k read bs n (record_end bs p)
 
 -- what the frame's check says, in order
 pub record Framed (k : KindOf) (bs : List ℕ) (p : ℕ) : Type 0 where

@@ -3,16 +3,13 @@ use Rattle.std.proofs.Common.{◌≡◌, ℕ, ◌+◌, ◌^◌, ◌<◌, ◌≤�
 use Rattle.std.specs.List.{flat_map, AllByRecursion}
 use Rattle.std.proofs.lemmas.Bool.{and_parts, and_from, leb-true, le-leb, ltb-true, lt-ltb}
 use Rattle.planning.specs.Checks.{Check, first_failing}
-use Rattle.sheet_layout.specs.Frame.{ValidAction, record_bytes, records_checks, head_of, length_of_head, sheet_bytes}
+use Rattle.sheet_layout.specs.Frame.{ValidAction, record_bytes, records_checks, head_of, length_of_head, sheet_bytes, actions_from}
 use Rattle.sheet_layout.specs.Numbers.{Bytes, be32, byte_at, num16, num32}
-use Rattle.sheet_layout.specs.Strips.{Masks, StripsContent, ValidMasks, ValidStrips, masks_bytes, strips_bytes, present_mask, strips_kind, strips_head_checks, strips_checks}
+use Rattle.sheet_layout.specs.Strips.{Masks, StripsContent, ValidMasks, ValidStrips, masks_bytes, strips_bytes, present_mask, strips_kind, strips_head_checks, strips_checks, read_masks}
 use Rattle.sheet_layout.proofs.Bytewise.{read32, written32, past}
-use Rattle.sheet_layout.proofs.Framing.{Decodes, actions_from, records_sound, records_complete}
+use Rattle.sheet_layout.proofs.Framing.{Decodes, records_sound, records_complete}
 use Rattle.sheet_layout.proofs.Opening.{OpeningPassed, opening_passed, opening_pass, opening_written, whole, records_short}
 use Rattle.planning.proofs.Rows.{passed, pass}
-
-abbrev pub read_masks : List ℕ → ℕ → Masks
-read_masks bs p = record { preconditions = num32 bs p; adds = num32 bs (p + 4); deletes = num32 bs (p + 8) }
 
 -- what a fact sheet says, read by its places
 abbrev pub strips_read : List ℕ → StripsContent

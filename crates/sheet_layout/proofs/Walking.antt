@@ -2,8 +2,8 @@
 use Rattle.std.proofs.Common.{◌≡◌, ℕ, zero, suc, ◌+◌, ◌-◌, ◌<◌, ◌≤◌, List, [], ◌∷◌, ◌++◌, map, length, get_or, take, drop, set, None, sym, refl, ap, ◌∙◌, subst₂, append_assoc, add-one, arith, length-append, take-append-drop}
 use Rattle.std.proofs.lemmas.List.{length-map, length-take-le, length-drop, map-append, drop-drop, drop_more, set_at, take_at, take_all, take-map}
 use Rattle.planning.specs.Checks.{first_failing}
-use Rattle.sheet_layout.specs.Frame.{KindOf, record_end, record_place, records_checks}
-use Rattle.sheet_layout.proofs.Framing.{Passed, action_at, actions_from, actions_on, records_on, record_passed}
+use Rattle.sheet_layout.specs.Frame.{KindOf, record_end, record_place, records_checks, actions_from, action_at}
+use Rattle.sheet_layout.proofs.Framing.{Passed, actions_on, records_on, record_passed}
 
 -- after i of n records, the next stands at p
 pub record Walk {C : Type 0} (k : KindOf) (read : List ℕ → ℕ → C) (bs : List ℕ) (first n i p : ℕ) : Type 0 where
@@ -57,9 +57,6 @@ abbrev pub Copied : {A X : Type 0} → (A → X) → List A → List X → ℕ �
 Copied f all old i table = table ≡ take i (map f all) ++ drop i old
 
 module _ {A X : Type 0} (f : A → X) (all : List A) (old : List X) where
-  pub copy_start : (table : List X) → table ≡ old → Copied f all old 0 table
-  copy_start table e = e
-
   pub copy_next : (i : ℕ) (table : List X) (x : X) (y : A) (ys : List A) → Copied f all old i table → i < length old → drop i all ≡ y ∷ ys → x ≡ f y → Copied f all old (i + 1) (set table i x)
   copy_next i table x y ys c room at is =
       let front = take i all in

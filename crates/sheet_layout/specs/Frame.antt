@@ -4,7 +4,7 @@
 -- byte 6 is the number of facts or variables; bytes 7 and 8 are the number of actions; then come
 -- the rest of the head and a record for each action. A record is the length of what follows it,
 -- a price, the preconditions and effects, and a name.
-use Rattle.std.specs.Prelude.{ℕ, zero, suc, ◌+◌, ◌*◌, ◌≤◌, Bool, cond, ◌&&◌, List, [], ◌∷◌, ◌++◌, length, ◌==◌, nat_le}
+use Rattle.std.specs.Prelude.{ℕ, zero, suc, ◌+◌, ◌-◌, ◌*◌, ◌≤◌, Bool, cond, ◌&&◌, List, [], ◌∷◌, ◌++◌, length, take, drop, ◌==◌, nat_le}
 use Rattle.std.specs.List.{flat_map}
 use Rattle.planning.specs.declared.refusal.Refusal.TheVariants.{Length, Version, Kind, Count, Frame, Price, Names}
 use Rattle.planning.specs.Checks.{Check}
@@ -90,3 +90,16 @@ opening_checks k bs =
 
 abbrev pub actions_check : ℕ → Check
 actions_check actions = record { passes = nat_le 1 actions && nat_le actions 512; refusal = Count 7 }
+
+-- the action whose record stands at p
+abbrev pub action_at : {C : Type 0} → KindOf → (List ℕ → ℕ → C) → List ℕ → ℕ → Action C
+action_at k read bs p = record {
+  coins = num32 bs (p + 2);
+  does = read bs (p + 6);
+  name = take (record_end bs p - k.ending bs (p + 6)) (drop (k.ending bs (p + 6)) bs);
+}
+
+-- n actions, from the record at p on
+abbrev pub actions_from : {C : Type 0} → KindOf → (List ℕ → ℕ → C) → List ℕ → ℕ → ℕ → List (Action C)
+actions_from k read bs zero p = []
+actions_from k read bs (suc n) p = action_at k read bs p ∷ actions_from k read bs n (record_end bs p)

@@ -44,6 +44,10 @@ masks_bytes m = be32 m.preconditions ++ (be32 m.adds ++ be32 m.deletes)
 abbrev pub strips_bytes : StripsContent → List ℕ
 strips_bytes c = sheet_bytes masks_bytes 1 c.facts (be32 c.start ++ be32 c.goal) c.actions
 
+-- the masks that stand from a place on
+abbrev pub read_masks : List ℕ → ℕ → Masks
+read_masks bs p = record { preconditions = num32 bs p; adds = num32 bs (p + 4); deletes = num32 bs (p + 8) }
+
 -- a mask that names only facts of the sheet
 abbrev pub present_mask : List ℕ → ℕ → Bool
 present_mask bs p = nat_lt (num32 bs p) (2 ^ byte_at bs 6)

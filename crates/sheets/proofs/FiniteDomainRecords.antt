@@ -1,16 +1,19 @@
 -- The record at the place of a number is that of the content's action of that number.
-use Rattle.std.proofs.Common.{◌≡◌, ℕ, ◌+◌, ◌-◌, ◌*◌, ◌<◌, ◌≤◌, true, List, length, take, drop, None, sym, refl, ap, ◌∙◌, arith}
+use Rattle.std.proofs.Common.{◌≡◌, ℕ, ◌+◌, ◌-◌, ◌*◌, ◌<◌, ◌≤◌, true, List, length, take, drop, None, Ok, sym, refl, ap, ◌∙◌, subst, arith}
 use Rattle.std.specs.List.{flat_map}
 use Rattle.std.proofs.lemmas.List.{take_at}
 use Rattle.planning.specs.Checks.{first_failing}
 use Rattle.sheet_layout.specs.FiniteDomain.{ValidAssignments, assignment_bytes, assignments_bytes, end_of_list, part, read_pairs, read_list, read_assignments, finite_domain_kind, finite_domain_checks}
-use Rattle.sheet_layout.specs.Frame.{framed, record_bytes, record_end, record_place}
+use Rattle.sheet_layout.specs.Frame.{framed, record_bytes, record_end, record_place, actions_from, action_at}
 use Rattle.sheet_layout.specs.Numbers.{Bytes, byte_at, num16}
 use Rattle.sheet_layout.proofs.Assigning.{counts_of, part_length, pairs_count, pairs_long, pairs_laid, assignments_decode}
 use Rattle.sheet_layout.proofs.FiniteDomainSheets.{records_at, finite_domain_read, sheet_passed}
-use Rattle.sheet_layout.proofs.Framing.{action_at, actions_from, framed_from, places_sound}
+use Rattle.sheet_layout.proofs.Framing.{framed_from, places_sound}
 use Rattle.sheet_layout.proofs.Walking.{Walk, walk_start, walk_to, walk_passed, walk_item}
-use Rattle.sheets.specs.Records.{FiniteDomainAt, PartIs, FiniteDomainRecordOf}
+use Rattle.sheets.specs.FiniteDomainReading.{finite_domain_reading}
+use Rattle.sheets.specs.Kinds.{Numbered}
+use Rattle.sheets.specs.Laws.{finite_domain_passes}
+use Rattle.sheets.specs.Records.{FiniteDomainAt, PartIs, FiniteDomainRecordOf, FiniteDomainNumbered}
 use Rattle.sheets.specs.declared.record.FiniteDomainRecord.{FiniteDomainRecord}
 use Rattle.sheets.specs.declared.record.Part.{Part}
 
@@ -79,3 +82,8 @@ module _ (bs : List ℕ) (small : Bytes bs) (ok : first_failing (finite_domain_c
         effects = part_is bs r.effects (q + 1) (r.place + 8 + 2 * length pre) (2 * m) (flat_map assignment_bytes eff) h.effects_place (omega (arith, place, pre-count)) h.effects eff-bytes eff-long;
         name = part_is bs r.name e (r.place + 8 + 2 * length pre + 2 * length eff) (record_end bs at - e) (part bs e (record_end bs at - e)) h.name_place (omega (arith, place, pre-count, eff-count)) h.name refl (part_length bs e (record_end bs at - e) (omega arith));
       }
+
+-- what stands at the place of a number is the record of that number
+pub numbered : (bs : List ℕ) → Bytes bs → (number place : ℕ) → Numbered finite_domain_reading bs number (Ok place) → (r : FiniteDomainRecord) → FiniteDomainAt bs place r → FiniteDomainNumbered bs number (Ok r)
+numbered bs small number place told r h =
+    (finite_domain_read bs, finite_domain_passes bs small told.0, record_there bs small told.0 number told.1 r (subst (λ p. FiniteDomainAt bs p r) told.2 h))

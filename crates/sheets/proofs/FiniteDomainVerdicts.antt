@@ -1,22 +1,23 @@
 -- From the checks of a sheet of variables to its content.
-use Rattle.std.proofs.Common.{◌≡◌, ℕ, ◌+◌, ◌-◌, ◌*◌, ◌<◌, ◌≤◌, min, true, false, cond, ◌&&◌, ltb, leb, List, [], ◌++◌, length, get_or, take, replicate, Some, None, Ok, Err, Result, sym, ap, ◌∙◌, subst, ⊎_elim, arith}
-use Rattle.std.proofs.lemmas.List.{ext_get_or, length-append, length-replicate, get_or_append_left, get_or-append_right, get_or-replicate, take_at}
+use Rattle.std.proofs.Common.{◌≡◌, ℕ, ◌+◌, ◌-◌, ◌*◌, ◌<◌, ◌≤◌, min, true, false, cond, ◌&&◌, ltb, leb, List, [], length, get_or, take, replicate, Some, None, Ok, Err, Result, sym, ap, ◌∙◌, subst, ⊎_elim, arith}
+use Rattle.std.proofs.lemmas.List.{ext_get_or, length-append, length-replicate, get_or_append_left, get_or-append_right, get_or-replicate}
 use Rattle.std.proofs.lemmas.Bool.{cases_Bool, cases_lt, and_parts, leb-true, lt-ltb, le-ltb, cond-true, cond-false}
 use Rattle.planning.specs.declared.refusal.Refusal.{Refusal}
 use Rattle.planning.specs.Checks.{first_failing}
 use Rattle.planning.specs.Outcomes.{Answers}
-use Rattle.planning.proofs.Rows.{after, fail}
-use Rattle.sheet_layout.specs.FiniteDomain.{FiniteDomainContent, product, finite_domain_kind, finite_domain_head, finite_domain_head_checks, finite_domain_checks, part, read_assignments}
-use Rattle.sheet_layout.specs.Frame.{opening_checks, records_checks}
+use Rattle.planning.proofs.Rows.{fail}
+use Rattle.sheet_layout.specs.FiniteDomain.{FiniteDomainContent, finite_domain_kind, finite_domain_head, finite_domain_head_checks, finite_domain_checks, part}
+use Rattle.sheet_layout.specs.Frame.{opening_checks}
 use Rattle.sheet_layout.specs.Numbers.{Bytes, byte_at, num16}
 use Rattle.sheet_layout.proofs.Assigning.{counts_of, part_length, part_at}
 use Rattle.sheet_layout.proofs.FiniteDomainHeads.{size_passed}
-use Rattle.sheet_layout.proofs.FiniteDomainSheets.{start_of, goal_of, records_at, finite_domain_read, variables_head, sheet_passed, finite_domain_sound, finite_domain_complete}
-use Rattle.sheet_layout.proofs.Framing.{actions_count}
+use Rattle.sheet_layout.proofs.FiniteDomainSheets.{start_of, goal_of, records_at, variables_head}
 use Rattle.sheet_layout.proofs.Opening.{opening_passed}
-use Rattle.sheets.specs.FiniteDomainReading.{FiniteDomainSheet, FiniteDomainHeadOf, FiniteDomainHeadAt, FiniteDomainChecked, FiniteDomainUnique, padded}
+use Rattle.sheets.specs.FiniteDomainReading.{FiniteDomainSheet, FiniteDomainHeadAt, padded, finite_domain_reading}
+use Rattle.sheets.specs.Laws.{finite_domain_reading_laws}
+pub use Rattle.sheets.specs.Laws.{padded_front}
 use Rattle.sheets.specs.declared.head.FiniteDomainHead.{FiniteDomainHead}
-use Rattle.sheets.proofs.LastChecks.{only_one, none_fits}
+use Rattle.sheets.proofs.Readings as variables
 
 -- sixteen numbers that are those of a part, and 0 behind it
 pub record Sixteen (bs : List ℕ) (p n : ℕ) (xs : List ℕ) : Type 0 where
@@ -41,9 +42,6 @@ sixteen_is bs p n xs h few fits =
         cond-false (ltb i (min n 16)) (byte_at bs (p + i)) 0 (le-ltb i (min n 16) (omega arith))
         ∙ sym (get_or-append_right (part bs p n) (replicate (16 - length (part bs p n)) 0) n i 0 counted high ∙ get_or-replicate (16 - length (part bs p n)) (i - n) 0 0 (omega arith)))
         (cases_lt i n)
-
-pub padded_front : (xs : List ℕ) (n : ℕ) → length xs ≡ n → take n (padded xs) ≡ xs
-padded_front xs n h = take_at xs (replicate (16 - length xs) 0) n h
 
 -- the three lists of a head, as they are copied from a sheet
 pub record Copied (bs : List ℕ) (d : ℕ) (ns vs gs : List ℕ) : Type 0 where
@@ -87,49 +85,28 @@ module _ (bs : List ℕ) (opened : first_failing (opening_checks finite_domain_k
       (cases_Bool (leb 1 d && leb d 16))
 
   module _ (d m : ℕ) (size : d ≡ byte_at bs 6) (count : m ≡ num16 bs 7) (copied : Copied bs d ns vs gs) where
-    pub head_same : first_failing (finite_domain_head_checks bs) ≡ first_failing (finite_domain_head d m (take d ns) (take d vs) (take d gs))
+    head_same : first_failing (finite_domain_head_checks bs) ≡ first_failing (finite_domain_head d m (take d ns) (take d vs) (take d gs))
     head_same =
         here_same (subst (λ n. Copied bs n ns vs gs) size copied)
         ∙ sym (λ i. first_failing (finite_domain_head (size i) (count i) (take (size i) ns) (take (size i) vs) (take (size i) gs)))
 
-    -- once the head has passed, its lists are the sheet's, and only the records are left
-    pub head_done : first_failing (finite_domain_head d m (take d ns) (take d vs) (take d gs)) ≡ None → Lists bs ns vs gs × (first_failing (finite_domain_checks bs) ≡ first_failing (records_checks finite_domain_kind bs m (9 + 3 * d)))
-    head_done h =
-        let in-range = size_passed d m (take d ns) (take d vs) (take d gs) h in
-        let records = records_checks finite_domain_kind bs (num16 bs 7) (9 + 3 * byte_at bs 6) in (
-          lists_are (subst (λ n. Copied bs n ns vs gs) size copied) (omega (arith, size, in-range.0)) (omega (arith, size, in-range.1)),
-          after (opening_checks finite_domain_kind bs) (finite_domain_head_checks bs ++ records) opened
-              ∙ after (finite_domain_head_checks bs) records (head_same ∙ h)
-              ∙ sym (λ i. first_failing (records_checks finite_domain_kind bs (count i) (9 + 3 * size i))),
+    -- what `new` answers on them is the sheet's head, or the first check of the head that fails
+    pub head_read : (x : Result FiniteDomainHead Refusal) → Answers (first_failing (finite_domain_head d m (take d ns) (take d vs) (take d gs))) (λ h. (h.variables ≡ d) × (h.actions ≡ m) × (h.counts ≡ ns) × (h.start ≡ vs) × (h.goal ≡ gs)) x
+        → Answers (first_failing (finite_domain_head_checks bs)) (FiniteDomainHeadAt bs) x
+    head_read (Err e) a = head_same ∙ a
+    head_read (Ok h) a =
+        let in-range = size_passed d m (take d ns) (take d vs) (take d gs) a.0 in
+        let lists = lists_are (subst (λ n. Copied bs n ns vs gs) size copied) (omega (arith, size, in-range.0)) (omega (arith, size, in-range.1)) in
+        let is = a.1 in (
+          head_same ∙ a.0,
+          record {
+            variables = is.0 ∙ size;
+            actions = is.1 ∙ count;
+            counts = is.2 ∙ lists.counts;
+            start = is.3 ∙ lists.start;
+            goal = is.4 ∙ lists.goal;
+          },
         )
 
--- a sheet that passes is that of what is read from it
-pub passes : (bs : List ℕ) → Bytes bs → first_failing (finite_domain_checks bs) ≡ None → FiniteDomainSheet bs (finite_domain_read bs)
-passes bs small e = let h = finite_domain_sound bs small e in record { valid = h.0; laid = h.1 }
-
-pub head_of : (bs : List ℕ) (h : FiniteDomainHead) → first_failing (finite_domain_checks bs) ≡ None → FiniteDomainHeadAt bs h → FiniteDomainHeadOf h (finite_domain_read bs)
-head_of bs h ok at =
-    let d = byte_at bs 6 in
-    let long = (sheet_passed bs ok).long in
-    let counted : length (counts_of bs) ≡ d = part_length bs 9 d (omega arith) in
-    record {
-      variables = at.variables ∙ sym counted;
-      actions = at.actions ∙ sym (actions_count finite_domain_kind read_assignments bs (num16 bs 7) (records_at bs));
-      states = h.total ∙ ap product ((λ i. take (at.variables i) (at.counts i)) ∙ padded_front (counts_of bs) d counted);
-      counts = at.counts;
-      start = at.start;
-      goal = at.goal;
-    }
-
-complete : (bs : List ℕ) → Bytes bs → (c : FiniteDomainContent) → FiniteDomainSheet bs c → (first_failing (finite_domain_checks bs) ≡ None) × (finite_domain_read bs ≡ c)
-complete bs small c h = finite_domain_complete bs c small h.valid h.laid
-
-pub one_content : (bs : List ℕ) → Bytes bs → FiniteDomainUnique bs
-one_content bs small = only_one (finite_domain_checks bs) (FiniteDomainSheet bs) (finite_domain_read bs) (complete bs small)
-
 pub no_content : (bs : List ℕ) (e : Refusal) → Bytes bs → first_failing (finite_domain_checks bs) ≡ Some e → (c : FiniteDomainContent) → FiniteDomainSheet bs c → ⊥
-no_content bs e small = none_fits (finite_domain_checks bs) (FiniteDomainSheet bs) (finite_domain_read bs) (complete bs small) e
-
-pub verdict : (bs : List ℕ) (r : Result FiniteDomainHead Refusal) → Bytes bs → Answers (first_failing (finite_domain_checks bs)) (FiniteDomainHeadAt bs) r → FiniteDomainChecked bs r
-verdict bs (Ok h) small a = (finite_domain_read bs, passes bs small a.0, head_of bs h a.0 a.1)
-verdict bs (Err e) small a = (a, no_content bs e small a)
+no_content bs e small = variables.no_content finite_domain_reading finite_domain_reading_laws bs small e

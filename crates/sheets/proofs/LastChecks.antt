@@ -1,12 +1,10 @@
--- The last check of a call on a sheet that passed, and what follows where passing decides.
+-- The last check of a call on a sheet that passed.
 use Rattle.std.proofs.Common.{◌≡◌, ℕ, ◌<◌, ◌≤◌, false, ◌&&◌, leb, ◌⊎◌, List, [], ◌∷◌, ◌++◌, Some, None, sym, ap, ◌∙◌, ⊎_elim, arith}
 use Rattle.std.proofs.lemmas.Bool.{and_left, and_right, lt-leb, le-ltb}
-use Rattle.planning.specs.declared.refusal.Refusal.{Refusal}
 use Rattle.planning.specs.declared.refusal.Refusal.TheVariants.{Short, NoAction}
 use Rattle.planning.specs.Checks.{Check, first_failing}
 use Rattle.planning.proofs.Rows.{after, fail}
-use Rattle.sheets.specs.Reading.{room_check}
-use Rattle.sheets.specs.Records.{number_check}
+use Rattle.sheets.specs.Kinds.{room_check, number_check}
 
 -- a table is too short
 pub room_fails : (cs : List Check) (needed actions prices count : ℕ) → first_failing cs ≡ None → needed ≡ count → (actions < needed) ⊎ ((needed ≤ actions) × (prices < needed))
@@ -23,14 +21,3 @@ pub number_fails : (cs : List Check) (number actions count : ℕ) → first_fail
 number_fails cs number actions count ok is past =
     let last = number_check count number in
     after cs (last ∷ []) ok ∙ fail last.passes last.refusal None (le-ltb number count (omega arith))
-
--- a content that makes all checks pass and is read back is the only one, and where a check fails there is none
-module _ {C : Type 0} (cs : List Check) (Is : C → Type 0) (read : C) (complete : (c : C) → Is c → (first_failing cs ≡ None) × (read ≡ c)) where
-  pub only_one : (c d : C) → Is c → Is d → c ≡ d
-  only_one c d hc hd = sym (complete c hc).1 ∙ (complete d hd).1
-
-  pub none_fits : (e : Refusal) → first_failing cs ≡ Some e → (c : C) → Is c → ⊥
-  none_fits e fails c h =
-      let none = (complete c h).0 in
-      let z : ◌≡◌ {A = ℕ} 0 1 = cc (fails, none) in
-      omega arith

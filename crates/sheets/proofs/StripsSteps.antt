@@ -1,8 +1,8 @@
 -- What the code of a STRIPS task computes is what its definition says.
-use Rattle.std.proofs.Common.{◌≡◌, ℕ, ◌-◌, ◌^◌, ◌<◌, ◌≤◌, min, Bool, true, false, cond, Some, None, Option, sym, refl, ap, ◌∙◌, arith}
+use Rattle.std.proofs.Common.{◌≡◌, ℕ, ◌-◌, ◌^◌, ◌<◌, ◌≤◌, min, true, cond, Some, None, sym, ◌∙◌, arith}
 use lib.Bits.{bit_and, bit_or}
 use Rattle.std.proofs.lemmas.Bool.{and_from, and_right, cond-true, cond-false, eq-eqb, ne_eqb, lt-ltb}
-use Rattle.sheets.specs.StripsTasks.{facts_of, subset, names, applicable, successor, performed}
+use Rattle.sheets.specs.StripsTasks.{facts_of, subset, names, applicable, successor}
 use Rattle.sheets.specs.declared.strips.StripsAction.{StripsAction}
 use Rattle.sheets.proofs.FactSets.{contains, applied-set}
 
@@ -26,15 +26,3 @@ module _ (n s : ℕ) (x : StripsAction) (coins : ℕ) (named : Named n x) where
       let ready : applicable n s x ≡ true = and_from (names n x) _ is_named (sym (contains n x.preconditions s named.preconditions) ∙ eq-eqb _ _ has) in
       let led = applied-set n s x.deletes x.adds (omega arith) low named.deletes named.adds in
       (λ i. Some (record { state = led i; coins = is i })) ∙ sym (cond-true _ _ _ ready)
-
--- what is not there is not performed
-pub absent : {X : Type 0} (b : Bool) (o : Option X) → o ≡ None → None ≡ cond b o None
-absent true o e = sym e
-absent false o e = refl
-
-pub no_action : (n s : ℕ) (a : Option StripsAction) (price : Option ℕ) → a ≡ None → performed n s a price ≡ None
-no_action n s a price e = ap (λ o. performed n s o price) e
-
-pub no_price : (n s : ℕ) (a : Option StripsAction) (price : Option ℕ) → price ≡ None → performed n s a price ≡ None
-no_price n s None price e = refl
-no_price n s (Some x) price e = ap (performed n s (Some x)) e

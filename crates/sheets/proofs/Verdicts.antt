@@ -1,39 +1,22 @@
--- From the checks of a fact sheet to its content and its records.
-use Rattle.std.proofs.Common.{◌≡◌, ℕ, ◌+◌, ◌-◌, ◌<◌, true, List, length, take, drop, Some, None, Ok, Err, Result, sym, ap, ◌∙◌, arith, length-drop, length-take}
+-- From the checks of a fact sheet to its records.
+use Rattle.std.proofs.Common.{◌≡◌, ℕ, ◌+◌, ◌-◌, ◌<◌, true, List, length, take, drop, Some, None, Ok, sym, ap, ◌∙◌, subst, arith, length-drop, length-take}
 use Rattle.planning.specs.declared.refusal.Refusal.{Refusal}
 use Rattle.planning.specs.Checks.{first_failing}
-use Rattle.sheet_layout.specs.Frame.{framed, record_end, record_place}
+use Rattle.sheet_layout.specs.Frame.{framed, record_end, record_place, actions_from, action_at}
 use Rattle.sheet_layout.specs.Numbers.{Bytes, byte_at, num16, num32}
-use Rattle.sheet_layout.specs.Strips.{StripsContent, ValidMasks, masks_bytes, strips_kind, strips_checks}
-use Rattle.sheet_layout.proofs.Framing.{action_at, actions_from, actions_count, framed_from, places_sound}
-use Rattle.sheet_layout.proofs.StripsSheets.{read_masks, strips_read, masks_decode, to_records, strips_sound, strips_complete}
+use Rattle.sheet_layout.specs.Strips.{StripsContent, ValidMasks, masks_bytes, strips_kind, strips_checks, read_masks}
+use Rattle.sheet_layout.proofs.Framing.{framed_from, places_sound}
+use Rattle.sheet_layout.proofs.StripsSheets.{strips_read, masks_decode, to_records, strips_sound}
 use Rattle.sheet_layout.proofs.Walking.{Walk, walk_start, walk_to, walk_passed, walk_item}
-use Rattle.planning.specs.Outcomes.{Answers}
-use Rattle.sheets.specs.Reading.{Sheet, HeadAt, HeadOf, StripsChecked, Unique}
-use Rattle.sheets.specs.Records.{StripsAt, StripsRecordOf}
-use Rattle.sheets.specs.declared.head.StripsHead.{StripsHead}
+use Rattle.sheets.specs.Kinds.{Numbered}
+use Rattle.sheets.specs.Laws.{strips_passes, strips_reading_laws}
+use Rattle.sheets.specs.Reading.{Sheet, strips_reading}
+use Rattle.sheets.specs.Records.{StripsAt, StripsRecordOf, StripsNumbered}
 use Rattle.sheets.specs.declared.record.StripsRecord.{StripsRecord}
-use Rattle.sheets.proofs.LastChecks.{only_one, none_fits}
-
--- a sheet that passes is that of what is read from it
-pub passes : (bs : List ℕ) → Bytes bs → first_failing (strips_checks bs) ≡ None → Sheet bs (strips_read bs)
-passes bs small e = let h = strips_sound bs small e in record { valid = h.0; laid = h.1 }
-
-pub head_of : (bs : List ℕ) (h : StripsHead) → HeadAt bs h → HeadOf h (strips_read bs)
-head_of bs h at = record { facts = at.facts; actions = at.actions ∙ sym (actions_count strips_kind read_masks bs (num16 bs 7) 17); start = at.start; goal = at.goal }
-
-complete : (bs : List ℕ) → Bytes bs → (c : StripsContent) → Sheet bs c → (first_failing (strips_checks bs) ≡ None) × (strips_read bs ≡ c)
-complete bs small c h = strips_complete bs c small h.valid h.laid
-
-pub one_content : (bs : List ℕ) → Bytes bs → Unique bs
-one_content bs small = only_one (strips_checks bs) (Sheet bs) (strips_read bs) (complete bs small)
+use Rattle.sheets.proofs.Readings as facts
 
 pub no_content : (bs : List ℕ) (e : Refusal) → Bytes bs → first_failing (strips_checks bs) ≡ Some e → (c : StripsContent) → Sheet bs c → ⊥
-no_content bs e small = none_fits (strips_checks bs) (Sheet bs) (strips_read bs) (complete bs small) e
-
-pub verdict : (bs : List ℕ) (r : Result StripsHead Refusal) → Bytes bs → Answers (first_failing (strips_checks bs)) (HeadAt bs) r → StripsChecked bs r
-verdict bs (Ok h) small a = (strips_read bs, passes bs small a.0, head_of bs h a.1)
-verdict bs (Err e) small a = (a, no_content bs e small a)
+no_content bs e small = facts.no_content strips_reading strips_reading_laws bs small e
 
 -- the record at the place of a number is that of the content's action of that number
 module _ (bs : List ℕ) (small : Bytes bs) (ok : first_failing (strips_checks bs) ≡ None) (number : ℕ) (below : number < num16 bs 7) where
@@ -72,3 +55,8 @@ module _ (bs : List ℕ) (small : Bytes bs) (ok : first_failing (strips_checks b
         name = named;
         part = ap (λ n. take n (drop r.name.place bs)) long ∙ ap (λ n. take (record_end bs at - (at + 18)) (drop n bs)) h.name_place ∙ sym h.name ∙ named;
       }
+
+-- what stands at the place of a number is the record of that number
+pub numbered : (bs : List ℕ) → Bytes bs → (number place : ℕ) → Numbered strips_reading bs number (Ok place) → (r : StripsRecord) → StripsAt bs place r → StripsNumbered bs number (Ok r)
+numbered bs small number place told r h =
+    (strips_read bs, strips_passes bs small told.0, record_there bs small told.0 number told.1 r (subst (λ p. StripsAt bs p r) told.2 h))

@@ -1,13 +1,12 @@
 -- What reading a sheet of variables answers, and what it leaves in the caller's tables.
-use Rattle.std.specs.Prelude.{◌≡◌, ℕ, ◌+◌, ◌-◌, ◌*◌, List, [], ◌∷◌, ◌++◌, length, replicate, Some, Ok, Err, Result, slice_set}
+use Rattle.std.specs.Prelude.{◌≡◌, ℕ, ◌+◌, ◌-◌, ◌*◌, List, [], ◌∷◌, ◌++◌, length, replicate, Result, slice_set}
 use Rattle.planning.specs.declared.refusal.Refusal.{Refusal}
-use Rattle.planning.specs.Checks.{first_failing}
-use Rattle.sheet_layout.specs.FiniteDomain.{Assignment, Assignments, FiniteDomainContent, ValidFiniteDomain, product, finite_domain_bytes, finite_domain_checks, part}
+use Rattle.sheet_layout.specs.FiniteDomain.{Assignment, Assignments, FiniteDomainContent, ValidFiniteDomain, product, finite_domain_bytes, finite_domain_kind, finite_domain_head_checks, part, read_assignments}
 use Rattle.sheet_layout.specs.Frame.{Action}
 use Rattle.sheet_layout.specs.Numbers.{byte_at, num16}
 use Rattle.sheets.specs.declared.head.FiniteDomainHead.{FiniteDomainHead}
 use Rattle.sheets.specs.declared.finite_domain.FiniteDomainAction.{FiniteDomainAction}
-use Rattle.sheets.specs.Reading.{Filled, priced, room_check}
+use Rattle.sheets.specs.Kinds.{Reading, Checked, OneContent, ReadInto}
 
 -- the sheet is the layout of a valid content
 pub record FiniteDomainSheet (bs : List ℕ) (c : FiniteDomainContent) : Type 0 where
@@ -35,16 +34,6 @@ pub record FiniteDomainHeadAt (bs : List ℕ) (h : FiniteDomainHead) : Type 0 wh
   pub start : h.start ≡ padded (part bs (9 + byte_at bs 6) (byte_at bs 6))
   pub goal : h.goal ≡ padded (part bs (9 + 2 * byte_at bs 6) (byte_at bs 6))
 
--- accepted with the head of the content whose layout the sheet is; refused, where it is the layout of
--- no valid content, by the first check that fails
-abbrev pub FiniteDomainChecked : List ℕ → Result FiniteDomainHead Refusal → Type 0
-FiniteDomainChecked bs (Ok h) = (c : FiniteDomainContent) × FiniteDomainSheet bs c × FiniteDomainHeadOf h c
-FiniteDomainChecked bs (Err e) = (first_failing (finite_domain_checks bs) ≡ Some e) × ((c : FiniteDomainContent) → FiniteDomainSheet bs c → ⊥)
-
--- a sheet is the layout of at most one valid content
-abbrev pub FiniteDomainUnique : List ℕ → Type 0
-FiniteDomainUnique bs = (c d : FiniteDomainContent) → FiniteDomainSheet bs c → FiniteDomainSheet bs d → c ≡ d
-
 -- values by variable, changed by a list of variables and values
 abbrev pub assigned : List ℕ → List Assignment → List ℕ
 assigned vs [] = vs
@@ -61,9 +50,30 @@ does a = record { preconditions = values_named a.preconditions; effects = values
 abbrev pub entered : Action Assignments → FiniteDomainAction
 entered x = does x.does
 
--- the tables hold the content, or they are untouched
+-- what a sheet of variables has of its own
+abbrev pub finite_domain_reading : Reading FiniteDomainHead FiniteDomainAction
+finite_domain_reading = record {
+  Content = FiniteDomainContent;
+  Does = Assignments;
+  kind = finite_domain_kind;
+  head_checks = finite_domain_head_checks;
+  first = λ bs. 9 + 3 * byte_at bs 6;
+  HeadAt = FiniteDomainHeadAt;
+  count = λ h. h.actions;
+  begins = λ h. 9 + 3 * h.variables;
+  LaidOut = FiniteDomainSheet;
+  HeadOf = FiniteDomainHeadOf;
+  actions = λ c. c.actions;
+  does_at = read_assignments;
+  enters = does;
+  blank = record { preconditions = replicate 16 255; effects = replicate 16 255 };
+}
+
+abbrev pub FiniteDomainChecked : List ℕ → Result FiniteDomainHead Refusal → Type 0
+FiniteDomainChecked = Checked finite_domain_reading
+
+abbrev pub FiniteDomainUnique : List ℕ → Type 0
+FiniteDomainUnique = OneContent finite_domain_reading
+
 abbrev pub FiniteDomainReadInto : List ℕ → List FiniteDomainAction → List ℕ → List FiniteDomainAction → List ℕ → Result FiniteDomainHead Refusal → Type 0
-FiniteDomainReadInto bs actions prices actions' prices' (Ok h) =
-    (c : FiniteDomainContent) × FiniteDomainSheet bs c × FiniteDomainHeadOf h c × Filled entered c.actions actions actions' × Filled priced c.actions prices prices'
-FiniteDomainReadInto bs actions prices actions' prices' (Err e) =
-    (first_failing (finite_domain_checks bs ++ (room_check (num16 bs 7) (length actions) (length prices) ∷ [])) ≡ Some e) × (actions' ≡ actions) × (prices' ≡ prices)
+FiniteDomainReadInto = ReadInto finite_domain_reading

@@ -7,10 +7,9 @@ use Rattle.std.specs.List.{slice_get, AllZip}
 use Rattle.planning.specs.declared.task.Transition.{Transition}
 use Rattle.planning.specs.Task.{Model}
 use Rattle.sheet_layout.specs.FiniteDomain.{FiniteDomainContent, ValidFiniteDomain, product, value_or_any}
-use Rattle.sheets.specs.FiniteDomainReading.{FiniteDomainHeadOf, entered}
-use Rattle.sheets.specs.Reading.{Begins, priced}
+use Rattle.sheets.specs.FiniteDomainReading.{FiniteDomainHeadOf, entered, finite_domain_reading}
+use Rattle.sheets.specs.Kinds.{Tasks, Described, listed, priced}
 use Rattle.sheets.specs.declared.finite_domain.FiniteDomainAction.{FiniteDomainAction}
-use Rattle.sheets.specs.declared.finite_domain_task.FiniteDomainTask.{FiniteDomainTask}
 use Rattle.sheets.specs.declared.head.FiniteDomainHead.{FiniteDomainHead}
 
 -- the number of a state by its values: v0 + n0·(v1 + n1·(v2 + ...))
@@ -65,11 +64,13 @@ applicable counts values x = names counts x.preconditions && (names counts x.eff
 abbrev pub successor : List ℕ → List ℕ → FiniteDomainAction → ℕ → Transition
 successor counts values x coins = record { state = encode counts (changed x.effects values); coins = min coins 1000000 }
 
+-- where an action leads, at a price
+abbrev pub performing : List ℕ → List ℕ → FiniteDomainAction → ℕ → Option Transition
+performing counts values x coins = cond (applicable counts values x) (Some (successor counts values x coins)) None
+
 -- the action and the price of a number; an action that a table lacks is never applicable
 abbrev pub performed : List ℕ → List ℕ → Option FiniteDomainAction → Option ℕ → Option Transition
-performed counts values None price = None
-performed counts values (Some x) None = None
-performed counts values (Some x) (Some coins) = cond (applicable counts values x) (Some (successor counts values x coins)) None
+performed counts values = listed (performing counts values)
 
 -- the numbers of values of a head's variables
 abbrev pub counts_of : FiniteDomainHead → List ℕ
@@ -84,13 +85,23 @@ finite_domain_over counts count goal actions prices = record {
   goal = λ state. nat_lt state (product counts) && holds goal (decode counts state);
 }
 
-abbrev pub finite_domain_model : FiniteDomainTask → Model
-finite_domain_model t = finite_domain_over (counts_of t.head) t.head.actions t.head.goal t.actions.now t.prices.now
+abbrev pub finite_domain_model : FiniteDomainHead → List FiniteDomainAction → List ℕ → Model
+finite_domain_model h = finite_domain_over (counts_of h) h.actions h.goal
 
 -- the task that the content of a sheet describes
 abbrev pub finite_domain_task_of : FiniteDomainContent → Model
 finite_domain_task_of c = finite_domain_over c.counts (length c.actions) c.goal (map entered c.actions) (map priced c.actions)
 
+-- what the tasks of sheets of variables do
+abbrev pub finite_domain_tasks : Tasks finite_domain_reading
+finite_domain_tasks = record {
+  states = λ h. product (counts_of h);
+  does = λ h state. performing (counts_of h) (decode (counts_of h) state);
+  goal = λ h state. holds h.goal (decode (counts_of h) state);
+  Fits = λ h c. ValidFiniteDomain c × FiniteDomainHeadOf h c;
+  task_of = finite_domain_task_of;
+}
+
 -- over tables that begin with a valid content, under its head, the task is the one that the content describes
-abbrev pub FiniteDomainDescribed : FiniteDomainHead → List FiniteDomainAction → List ℕ → FiniteDomainTask → Type 0
-FiniteDomainDescribed head actions prices t = (c : FiniteDomainContent) → ValidFiniteDomain c → FiniteDomainHeadOf head c → Begins entered c.actions actions → Begins priced c.actions prices → finite_domain_model t ≡ finite_domain_task_of c
+abbrev pub FiniteDomainDescribed : FiniteDomainHead → List FiniteDomainAction → List ℕ → Model → Type 0
+FiniteDomainDescribed = Described finite_domain_reading finite_domain_tasks

@@ -1,11 +1,11 @@
--- What reading a sheet answers, and what it leaves in the caller's tables: what both kinds share, and fact sheets.
-use Rattle.std.specs.Prelude.{◌≡◌, ℕ, ◌&&◌, List, [], ◌∷◌, ◌++◌, map, length, drop, Some, Ok, Err, Result, nat_le}
+-- Fact sheets: what reading one answers, and what it leaves in the caller's tables.
+use Rattle.std.specs.Prelude.{◌≡◌, ℕ, List, length, Result}
 use Rattle.planning.specs.declared.refusal.Refusal.{Refusal}
-use Rattle.planning.specs.declared.refusal.Refusal.TheVariants.{Short}
-use Rattle.planning.specs.Checks.{Check, first_failing}
 use Rattle.sheet_layout.specs.Frame.{Action}
 use Rattle.sheet_layout.specs.Numbers.{byte_at, num16, num32}
-use Rattle.sheet_layout.specs.Strips.{Masks, StripsContent, ValidStrips, strips_bytes, strips_checks}
+use Rattle.sheet_layout.specs.Strips.{Masks, StripsContent, ValidStrips, strips_bytes, strips_kind, strips_head_checks, read_masks}
+pub use Rattle.sheets.specs.Kinds.{Filled, Begins, priced, room_check}
+use Rattle.sheets.specs.Kinds.{Reading, Checked, OneContent, ReadInto}
 use Rattle.sheets.specs.declared.head.StripsHead.{StripsHead}
 use Rattle.sheets.specs.declared.strips.StripsAction.{StripsAction}
 
@@ -28,38 +28,37 @@ pub record HeadAt (bs : List ℕ) (h : StripsHead) : Type 0 where
   pub start : h.start ≡ num32 bs 9
   pub goal : h.goal ≡ num32 bs 13
 
--- accepted with the head of the content whose layout the sheet is; refused, where it is the layout of
--- no valid content, by the first check that fails
-abbrev pub StripsChecked : List ℕ → Result StripsHead Refusal → Type 0
-StripsChecked bs (Ok h) = (c : StripsContent) × Sheet bs c × HeadOf h c
-StripsChecked bs (Err e) = (first_failing (strips_checks bs) ≡ Some e) × ((c : StripsContent) → Sheet bs c → ⊥)
+-- what an action does, and what an action of a content is, in the tables
+abbrev pub masked : Masks → StripsAction
+masked m = record { preconditions = m.preconditions; adds = m.adds; deletes = m.deletes }
 
--- a sheet is the layout of at most one valid content
-abbrev pub Unique : List ℕ → Type 0
-Unique bs = (c d : StripsContent) → Sheet bs c → Sheet bs d → c ≡ d
-
--- what an action of a content is in the tables
 abbrev pub tabled : Action Masks → StripsAction
-tabled x = record { preconditions = x.does.preconditions; adds = x.does.adds; deletes = x.does.deletes }
+tabled x = masked x.does
 
-abbrev pub priced : {C : Type 0} → Action C → ℕ
-priced x = x.coins
+-- what a fact sheet has of its own
+abbrev pub strips_reading : Reading StripsHead StripsAction
+strips_reading = record {
+  Content = StripsContent;
+  Does = Masks;
+  kind = strips_kind;
+  head_checks = strips_head_checks;
+  first = λ bs. 17;
+  HeadAt = HeadAt;
+  count = λ h. h.actions;
+  begins = λ h. 17;
+  LaidOut = Sheet;
+  HeadOf = HeadOf;
+  actions = λ c. c.actions;
+  does_at = read_masks;
+  enters = masked;
+  blank = record { preconditions = 0; adds = 0; deletes = 0 };
+}
 
--- the last check of a reading call: both tables are long enough
-abbrev pub room_check : ℕ → ℕ → ℕ → Check
-room_check needed actions prices = record { passes = nat_le needed actions && nat_le needed prices; refusal = Short needed }
+abbrev pub StripsChecked : List ℕ → Result StripsHead Refusal → Type 0
+StripsChecked = Checked strips_reading
 
--- a table whose first entries hold the actions, and whose rest is as it was
-abbrev pub Filled : {C X : Type 0} → (Action C → X) → List (Action C) → List X → List X → Type 0
-Filled f xs table table' = table' ≡ map f xs ++ drop (length xs) table
+abbrev pub Unique : List ℕ → Type 0
+Unique = OneContent strips_reading
 
--- a table that begins with the actions
-abbrev pub Begins : {C X : Type 0} → (Action C → X) → List (Action C) → List X → Type 0
-Begins {X = X} f xs table = (rest : List X) × (table ≡ map f xs ++ rest)
-
--- the tables hold the content, or they are untouched
 abbrev pub StripsReadInto : List ℕ → List StripsAction → List ℕ → List StripsAction → List ℕ → Result StripsHead Refusal → Type 0
-StripsReadInto bs actions prices actions' prices' (Ok h) =
-    (c : StripsContent) × Sheet bs c × HeadOf h c × Filled tabled c.actions actions actions' × Filled priced c.actions prices prices'
-StripsReadInto bs actions prices actions' prices' (Err e) =
-    (first_failing (strips_checks bs ++ (room_check (num16 bs 7) (length actions) (length prices) ∷ [])) ≡ Some e) × (actions' ≡ actions) × (prices' ≡ prices)
+StripsReadInto = ReadInto strips_reading

@@ -1,8 +1,7 @@
 -- What a record asked for by number is.
-use Rattle.std.specs.Prelude.{◌≡◌, ℕ, ◌+◌, ◌-◌, ◌*◌, cond, List, [], ◌∷◌, ◌++◌, length, take, drop, Some, Ok, Err, Result, ◌==◌, nat_lt}
+use Rattle.std.specs.Prelude.{◌≡◌, ℕ, ◌+◌, ◌-◌, ◌*◌, cond, List, [], ◌∷◌, ◌++◌, length, take, drop, Some, Ok, Err, Result, ◌==◌}
 use Rattle.std.specs.List.{flat_map}
 use Rattle.planning.specs.declared.refusal.Refusal.{Refusal}
-use Rattle.planning.specs.declared.refusal.Refusal.TheVariants.{NoAction}
 use Rattle.planning.specs.Checks.{Check, first_failing}
 use Rattle.sheet_layout.specs.Frame.{Action, record_bytes, record_end}
 use Rattle.sheet_layout.specs.FiniteDomain.{Assignments, FiniteDomainContent, assignment_bytes, assignments_bytes, end_of_list, part, finite_domain_checks}
@@ -17,6 +16,7 @@ use Rattle.sheets.specs.declared.record.FiniteDomainRecord.{FiniteDomainRecord}
 use Rattle.sheets.specs.declared.sheet.SheetHead.{SheetHead}
 use Rattle.sheets.specs.declared.sheet.SheetHead.TheVariants.{Strips as StripsSheet, FiniteDomain as VariablesSheet}
 use Rattle.sheets.specs.FiniteDomainReading.{FiniteDomainSheet, FiniteDomainHeadOf}
+use Rattle.sheets.specs.Kinds.{number_check}
 use Rattle.sheets.specs.Reading.{Sheet, HeadOf}
 
 -- a set of facts at a place
@@ -47,10 +47,6 @@ pub record StripsRecordOf (bs : List ℕ) (c : StripsContent) (number : ℕ) (r 
   pub name_place : r.name.place ≡ r.place + 18
   pub name : r.name.bytes.now ≡ action.name
   pub part : take (length action.name) (drop r.name.place bs) ≡ action.name
-
--- the last check of the call: the number is that of an action
-abbrev pub number_check : ℕ → ℕ → Check
-number_check actions number = record { passes = nat_lt number actions; refusal = NoAction number }
 
 -- a record of a fact sheet by its number
 abbrev pub StripsNumbered : List ℕ → ℕ → Result StripsRecord Refusal → Type 0

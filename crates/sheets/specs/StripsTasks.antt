@@ -1,13 +1,13 @@
 -- STRIPS: a state is a set of facts; an action needs, deletes and adds facts.
-use Rattle.std.specs.Prelude.{◌≡◌, ℕ, zero, suc, ◌+◌, ◌/◌, ◌%◌, ◌^◌, min, Bool, true, cond, not, ◌&&◌, ◌||◌, List, map, length, Some, None, Option, ◌==◌, nat_lt}
+use Rattle.std.specs.Prelude.{ℕ, zero, suc, ◌+◌, ◌/◌, ◌%◌, ◌^◌, min, Bool, true, cond, not, ◌&&◌, ◌||◌, List, map, length, Some, None, Option, ◌==◌, nat_lt}
 use Rattle.std.specs.List.{slice_get}
 use Rattle.planning.specs.declared.task.Transition.{Transition}
 use Rattle.planning.specs.Task.{Model}
 use Rattle.sheet_layout.specs.Strips.{StripsContent}
-use Rattle.sheets.specs.Reading.{HeadOf, Begins, tabled, priced}
+use Rattle.sheets.specs.Kinds.{Tasks, Described, listed}
+use Rattle.sheets.specs.Reading.{HeadOf, tabled, priced, strips_reading}
 use Rattle.sheets.specs.declared.head.StripsHead.{StripsHead}
 use Rattle.sheets.specs.declared.strips.StripsAction.{StripsAction}
-use Rattle.sheets.specs.declared.strips_task.StripsTask.{StripsTask}
 
 -- a set of facts says of each fact whether it holds
 abbrev pub Facts : Type 0
@@ -44,11 +44,13 @@ successor n state x coins = record {
   coins = min coins 1000000;
 }
 
+-- where an action leads, at a price
+abbrev pub performing : ℕ → ℕ → StripsAction → ℕ → Option Transition
+performing n state x coins = cond (applicable n state x) (Some (successor n state x coins)) None
+
 -- the action and the price of a number; an action that a table lacks is never applicable
 abbrev pub performed : ℕ → ℕ → Option StripsAction → Option ℕ → Option Transition
-performed n state None price = None
-performed n state (Some x) None = None
-performed n state (Some x) (Some coins) = cond (applicable n state x) (Some (successor n state x coins)) None
+performed n state = listed (performing n state)
 
 -- the task of so many facts and actions, with a goal and tables of actions and prices
 abbrev pub strips_over : ℕ → ℕ → ℕ → List StripsAction → List ℕ → Model
@@ -59,13 +61,23 @@ strips_over n count goal actions prices = record {
   goal = λ state. nat_lt state (2 ^ n) && subset n (facts_of goal) (facts_of state);
 }
 
-abbrev pub strips_model : StripsTask → Model
-strips_model t = strips_over t.head.facts t.head.actions t.head.goal t.actions.now t.prices.now
+abbrev pub strips_model : StripsHead → List StripsAction → List ℕ → Model
+strips_model h = strips_over h.facts h.actions h.goal
 
 -- the task that the content of a sheet describes
 abbrev pub strips_task_of : StripsContent → Model
 strips_task_of c = strips_over c.facts (length c.actions) c.goal (map tabled c.actions) (map priced c.actions)
 
+-- what the tasks of fact sheets do
+abbrev pub strips_tasks : Tasks strips_reading
+strips_tasks = record {
+  states = λ h. 2 ^ h.facts;
+  does = λ h. performing h.facts;
+  goal = λ h state. subset h.facts (facts_of h.goal) (facts_of state);
+  Fits = HeadOf;
+  task_of = strips_task_of;
+}
+
 -- over tables that begin with the content, under its head, the task is the one that the content describes
-abbrev pub StripsDescribed : StripsHead → List StripsAction → List ℕ → StripsTask → Type 0
-StripsDescribed head actions prices t = (c : StripsContent) → HeadOf head c → Begins tabled c.actions actions → Begins priced c.actions prices → strips_model t ≡ strips_task_of c
+abbrev pub StripsDescribed : StripsHead → List StripsAction → List ℕ → Model → Type 0
+StripsDescribed = Described strips_reading strips_tasks

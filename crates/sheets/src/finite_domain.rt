@@ -1,19 +1,26 @@
 // Sheets of variables with several values: finite-domain tasks.
-ghost use Rattle.std.specs.Prelude.{◌≡◌, ℕ, ◌+◌, ◌*◌, ◌≤◌, min, true, ◌&&◌, ◌||◌, ltb, length, take, if◌then◌else◌, Some, None, ◌==◌, nat_lt, slice_index};
-ghost use Rattle.std.specs.List.{AllByRecursion};
+ghost use Rattle.std.specs.Prelude.{◌≡◌, ℕ, ◌+◌, ◌*◌, ◌≤◌, min, true, ◌&&◌, ◌||◌, ◌<◌, ltb, [], ◌∷◌, length, take, if◌then◌else◌, Some, None, ◌==◌, nat_le, nat_lt, slice_index, slice_index_or};
 ghost use Rattle.planning.specs.Checks.{first_failing};
 ghost use Rattle.planning.specs.Outcomes.{Answers};
-ghost use Rattle.sheet_layout.specs.FiniteDomain.{ValidCount, product, counts_checks, values_checks, finite_domain_head, end_of_list, list_fits, present_pair, present_pairs, present_list, read_list, read_assignments, finite_domain_kind, finite_domain_checks, FiniteDomainContent};
-ghost use Rattle.sheets.specs.FiniteDomainReading.{FiniteDomainSheet, FiniteDomainHeadAt, FiniteDomainChecked, FiniteDomainUnique, values_named, does, entered, FiniteDomainReadInto};
-ghost use Rattle.sheets.specs.Reading.{Filled, priced};
-ghost use Rattle.sheet_layout.specs.Numbers.{byte_at, num16};
+ghost use Rattle.sheet_layout.specs.FiniteDomain.{product, counts_checks, values_checks, finite_domain_head, end_of_list, list_fits, present_pairs, present_list, read_list, read_assignments};
+ghost use Rattle.sheet_layout.specs.Numbers.{byte_at};
+ghost use Rattle.sheets.specs.Described.{finite_domain_tasks_laws};
+ghost use Rattle.sheets.specs.FiniteDomainReading.{values_named, does, finite_domain_reading};
+ghost use Rattle.sheets.specs.FiniteDomainTasks.{finite_domain_tasks};
+ghost use Rattle.sheets.specs.Laws.{finite_domain_reading_laws};
 
-use crate::bytes::{byte_at, u16_at, u32_at};
-use crate::frame::{SheetKind, check_opening, check_records};
+use crate::bytes::byte_at;
+use crate::frame::check_sizes;
 use crate::head::FiniteDomainHead;
+use crate::kind::{Kind, Opening, SheetKind};
 use planning::refusal::Refusal;
+use planning::task::Transition;
 
-// What an action needs, and what it sets: values by variable, 255 for the variables that it does not name.
+// The number that stands for any value, or for a variable that is not named.
+pub const ANY: u8 = 255;
+
+// What an action needs, and what it sets: values by variable, ANY for the variables that it does not name.
+// Kept: no plainer: tables and heads are public, and callers write the sheets' own 255 for a variable that is not named.
 #[derive(Clone, Copy)]
 pub struct FiniteDomainAction {
     pub preconditions: [u8; 16],
@@ -22,23 +29,21 @@ pub struct FiniteDomainAction {
 
 // The numbers of values of the variables, which stand from byte 9 on.
 fn check_counts(counts: &[u8]) -> Result<(), Refusal>
-    requires { length counts.now ≤ 16 }
     ensures { Answers (first_failing (counts_checks counts.now 9)) (λ _. Unit {0}) result }
 {
-    for i in 0..counts.len() {
-        let count = counts[i];
-        if count < 2 || count > 16 {
-            return Err(Refusal::Count { byte: 9 + i });
-        }
+    match counts.iter().position(|count| !(2..=16).contains(count)) {
+        Some(i) => Err(Refusal::Count { byte: 9 + i }),
+        None => Ok(()),
     }
-    Ok(())
 }
 
 // Whether a value is one of a variable's, or stands for any where that is allowed.
+// Kept: no plainer: a closure for the test needs its F.pre and F.post at every value, where one flag chooses between two
+// definitions.
 pub(crate) fn is_value(value: u8, count: u8, any: bool) -> bool
     ensures { result ≡ (nat_lt value count || (any && value == 255)) }
 {
-    value < count || any && value == 255
+    value < count || any && value == ANY
 }
 
 // The values of the variables, which stand from a byte on: each one of its variable's, or any where that is allowed.
@@ -48,27 +53,25 @@ pub(crate) fn check_values(
     any: bool,
     first: usize,
 ) -> Result<(), Refusal>
-    requires few { length counts.now ≤ 16 }
-    requires same { length values.now ≡ length counts.now }
-    requires place { first ≤ 41 }
+    requires { first ≤ 41 }
     ensures { Answers (first_failing (values_checks (λ v n. nat_lt v n || (any && v == 255)) counts.now values.now first)) (λ _. Unit {0}) result }
 {
-    for i in 0..counts.len() {
-        if !is_value(values[i], counts[i], any) {
-            return Err(Refusal::StartOrGoal { byte: first + i });
-        }
+    let mut pairs = counts.iter().zip(values);
+    match pairs.position(|(count, value)| !is_value(*value, *count, any)) {
+        Some(i) => Err(Refusal::StartOrGoal { byte: first + i }),
+        None => Ok(()),
     }
-    Ok(())
 }
 
 // The number of states, or 65,537 where there are more.
 fn count_states(counts: &[u8]) -> u32
-    requires { AllByRecursion ValidCount counts.now }
     ensures { result ≡ min (product counts.now) 65537 }
 {
+    // Kept: no plainer: a fold would multiply with saturation, since its closure does not know that the product so far
+    // stops at 65,537.
     let mut states = 1;
     for count in counts {
-        states = (states * *count as u32).min(65537);
+        states = (states * u32::from(*count)).min(65537);
     }
     states
 }
@@ -84,20 +87,15 @@ impl FiniteDomainHead {
     ) -> Result<FiniteDomainHead, Refusal>
         ensures { Answers (first_failing (finite_domain_head variables actions (take variables counts) (take variables start) (take variables goal))) (λ h. (h.variables ≡ variables) × (h.actions ≡ actions) × (h.counts ≡ counts) × (h.start ≡ start) × (h.goal ≡ goal)) result }
     {
-        if variables < 1 || variables > 16 {
-            return Err(Refusal::Count { byte: 6 });
-        }
-        if actions < 1 || actions > 512 {
-            return Err(Refusal::Count { byte: 7 });
-        }
+        check_sizes(variables, actions)?;
         let d = variables as usize;
-        check_counts(&counts[0..d])?;
-        let states = count_states(&counts[0..d]);
+        check_counts(&counts[..d])?;
+        let states = count_states(&counts[..d]);
         if states > 65536 {
             return Err(Refusal::Count { byte: 6 });
         }
-        check_values(&counts[0..d], &start[0..d], false, 9 + d)?;
-        check_values(&counts[0..d], &goal[0..d], true, 9 + 2 * d)?;
+        check_values(&counts[..d], &start[..d], false, 9 + d)?;
+        check_values(&counts[..d], &goal[..d], true, 9 + 2 * d)?;
         Ok(FiniteDomainHead {
             variables,
             actions,
@@ -112,19 +110,28 @@ impl FiniteDomainHead {
     pub(crate) fn counts(&self) -> &[u8]
         ensures { result.now ≡ take self.now.variables self.now.counts }
     {
-        &self.counts[0..self.variables as usize]
+        &self.counts[..self.variables as usize]
     }
 }
 
-// Whether the pair at a place names a variable that is there and at least `least`, and a value that is there.
-fn pair_present(sheet: &[u8], at: usize, least: u8) -> bool
-    requires { at + 2 ≤ length sheet.now }
-    ensures { result ≡ present_pair sheet.now at least }
+// The pairs of a variable and a value that stand from a place on.
+// Kept: no plainer: their count is the byte before, which the caller has read for the list's end.
+fn pairs_at(sheet: &[u8], count: u8, first: usize) -> &[[u8; 2]]
+    requires { first + 2 * count ≤ length sheet.now }
+    ensures long { length result.now ≡ count }
+    ensures each { (k : ℕ) → k < count → slice_index_or result.now k [] ≡ byte_at sheet.now (first + 2 * k) ∷ byte_at sheet.now (first + 2 * k + 1) ∷ [] }
 {
-    let variable = sheet[at];
+    let (pairs, _) = sheet[first..first + 2 * count as usize].as_chunks();
+    pairs
+}
+
+// Whether a variable is there and at least `least`, and the value is one of its values.
+fn pair_present(sheet: &[u8], variable: u8, value: u8, least: u8) -> bool
+    ensures { result ≡ (nat_le least variable && (nat_lt variable (byte_at sheet.now 6) && nat_lt value (byte_at sheet.now (9 + variable)))) }
+{
     least <= variable
         && variable < byte_at(sheet, 6)
-        && sheet[at + 1] < byte_at(sheet, 9 + variable as usize)
+        && value < byte_at(sheet, 9 + variable as usize)
 }
 
 // Whether pairs do, their variables rising strictly.
@@ -133,15 +140,16 @@ fn pairs_present(sheet: &[u8], count: u8, first: usize) -> bool
     ensures { result ≡ present_pairs sheet.now count first 0 }
 {
     let mut least = 0;
-    for i in 0..count as usize {
-        let at = first + 2 * i;
-        if !pair_present(sheet, at, least) {
+    for &[variable, value] in pairs_at(sheet, count, first) {
+        if !pair_present(sheet, variable, value, least) {
             return false;
         }
-        least = sheet[at] + 1;
+        least = variable + 1;
     }
     true
 }
+
+// Kept: no plainer: where a list ends is one short sum, written where its count has just been read.
 
 // Where the list that begins at a place ends, if it is no longer than there are variables and lies before an end.
 fn list_end(sheet: &[u8], at: usize, end: usize) -> Option<usize>
@@ -160,13 +168,39 @@ fn list_end(sheet: &[u8], at: usize, end: usize) -> Option<usize>
 }
 
 // The kind of sheet that is made of variables.
-pub(crate) struct Variables;
+#[derive(Clone, Copy)]
+pub struct Variables;
 
 impl SheetKind for Variables {
-    ghost kind = { finite_domain_kind };
+    type Head = FiniteDomainHead;
 
-    fn code() -> u8 {
-        2
+    type Action = FiniteDomainAction;
+
+    ghost reading = { finite_domain_reading };
+
+    ghost tasks = { finite_domain_tasks };
+
+    fn kind() -> Kind {
+        Kind::FiniteDomain
+    }
+
+    fn head(sheet: &[u8], opening: Opening) -> Result<FiniteDomainHead, Refusal> {
+        let d = opening.size as usize;
+        FiniteDomainHead::new(
+            opening.size,
+            opening.actions,
+            sixteen(sheet, 9, d),
+            sixteen(sheet, 9 + d, d),
+            sixteen(sheet, 9 + 2 * d, d),
+        )
+    }
+
+    fn actions(head: &FiniteDomainHead) -> u16 {
+        head.actions
+    }
+
+    fn first_record(head: &FiniteDomainHead) -> usize {
+        9 + 3 * head.variables as usize
     }
 
     fn ending(sheet: &[u8], at: usize, end: usize) -> Option<usize> {
@@ -179,6 +213,38 @@ impl SheetKind for Variables {
         let effects = at + 1 + 2 * count as usize;
         pairs_present(sheet, count, at + 1) && pairs_present(sheet, sheet[effects], effects + 1)
     }
+
+    fn action_at(sheet: &[u8], at: usize) -> FiniteDomainAction {
+        lists_at(sheet, at)
+    }
+
+    fn blank() -> FiniteDomainAction {
+        FiniteDomainAction {
+            preconditions: [ANY; 16],
+            effects: [ANY; 16],
+        }
+    }
+
+    fn states(head: &FiniteDomainHead) -> u32 {
+        head.states
+    }
+
+    fn perform(
+        head: &FiniteDomainHead,
+        state: u32,
+        action: &FiniteDomainAction,
+        price: u32,
+    ) -> Option<Transition> {
+        head.perform(state, action, price)
+    }
+
+    fn is_goal(head: &FiniteDomainHead, state: u32) -> bool {
+        head.meets_goal(state)
+    }
+
+    ghost laws = { finite_domain_reading_laws };
+
+    ghost task_laws = { finite_domain_tasks_laws };
 }
 
 // Sixteen bytes, of which the first `count` are those of a sheet from a place on and the others 0.
@@ -186,36 +252,7 @@ fn sixteen(sheet: &[u8], at: usize, count: usize) -> [u8; 16]
     requires { at ≤ 1000 }
     ensures { (length result ≡ 16) × ((k : ℕ) → slice_index result k ≡ (if ltb k (min count 16) then byte_at sheet.now (at + k) else 0)) }
 {
-    let mut bytes = [0; 16];
-    for i in 0..count.min(16) {
-        bytes[i] = byte_at(sheet, at + i);
-    }
-    bytes
-}
-
-// The checks of a sheet of variables, and its head by the places of its numbers.
-pub(crate) fn verify_finite_domain(sheet: &[u8]) -> Result<FiniteDomainHead, Refusal>
-    ensures { Answers (first_failing (finite_domain_checks sheet.now)) (FiniteDomainHeadAt sheet.now) result }
-{
-    let opening = check_opening::<Variables>(sheet)?;
-    let d = opening.size as usize;
-    let head = FiniteDomainHead::new(
-        opening.size,
-        opening.actions,
-        sixteen(sheet, 9, d),
-        sixteen(sheet, 9 + d, d),
-        sixteen(sheet, 9 + 2 * d, d),
-    )?;
-    check_records::<Variables>(sheet, head.actions, 9 + 3 * d)?;
-    Ok(head)
-}
-
-// A whole sheet of variables, altering nothing.
-pub fn check_finite_domain(sheet: &[u8]) -> Result<FiniteDomainHead, Refusal>
-    ensures checked { FiniteDomainChecked sheet.now result }
-    ensures unique { FiniteDomainUnique sheet.now }
-{
-    verify_finite_domain(sheet)
+    std::array::from_fn(|i| if i < count { byte_at(sheet, at + i) } else { 0 })
 }
 
 // The list that begins at a place, as values by variable.
@@ -225,10 +262,9 @@ fn named_at(sheet: &[u8], at: usize) -> [u8; 16]
     requires present { present_list sheet.now at ≡ true }
     ensures { result ≡ values_named (read_list sheet.now at) }
 {
-    let mut values = [255; 16];
-    for i in 0..sheet[at] as usize {
-        let pair = at + 1 + 2 * i;
-        values[sheet[pair] as usize] = sheet[pair + 1];
+    let mut values = [ANY; 16];
+    for &[variable, value] in pairs_at(sheet, sheet[at], at + 1) {
+        values[variable as usize] = value;
     }
     values
 }
@@ -245,36 +281,4 @@ fn lists_at(sheet: &[u8], at: usize) -> FiniteDomainAction
         preconditions: named_at(sheet, at),
         effects: named_at(sheet, effects),
     }
-}
-
-// Copies the records of a sheet that passed its checks.
-fn fill(sheet: &[u8], count: u16, actions: &mut [FiniteDomainAction], prices: &mut [u32])
-    requires passes { first_failing (finite_domain_checks sheet.now) ≡ None }
-    requires count { count ≡ num16 sheet.now 7 }
-    requires room { (count ≤ length actions.old) × (count ≤ length prices.old) }
-    ensures { (c : FiniteDomainContent) → FiniteDomainSheet sheet.now c → Filled entered c.actions actions.old actions.new × Filled priced c.actions prices.old prices.new }
-{
-    let mut at = 9 + 3 * byte_at(sheet, 6) as usize;
-    for i in 0..count as usize {
-        actions[i] = lists_at(sheet, at + 6);
-        prices[i] = u32_at(sheet, at + 2);
-        at = at + 2 + u16_at(sheet, at) as usize;
-    }
-}
-
-// A whole sheet of variables into the caller's tables, which a refusal leaves untouched.
-pub fn read_finite_domain(
-    sheet: &[u8],
-    actions: &mut [FiniteDomainAction],
-    prices: &mut [u32],
-) -> Result<FiniteDomainHead, Refusal>
-    ensures { FiniteDomainReadInto sheet.now actions.old prices.old actions.new prices.new result }
-{
-    let head = verify_finite_domain(sheet)?;
-    let needed = head.actions as usize;
-    if actions.len() < needed || prices.len() < needed {
-        return Err(Refusal::Short { needed });
-    }
-    fill(sheet, head.actions, actions, prices);
-    Ok(head)
 }

@@ -20,6 +20,8 @@ pub struct StripsHead {
 
 // Variables, actions and states, and of each variable its number of values, its value at the start
 // and its value at the goal, 255 for any.
+// Kept: no plainer: the three lists share one length and one fixed memory, and each is read, checked and compared as a
+// slice of its own.
 #[derive(Clone, Copy)]
 pub struct FiniteDomainHead {
     pub variables: u8,

@@ -2,13 +2,16 @@
 ghost use Rattle.std.specs.Prelude.{◌≡◌, true};
 ghost use Rattle.sheet_layout.specs.Frame.{framed};
 ghost use Rattle.sheet_layout.specs.Strips.{strips_kind};
-ghost use Rattle.sheets.specs.Records.{StripsAt, StripsNumbered, FiniteDomainAt, FiniteDomainNumbered, RecordAnswer};
+ghost use Rattle.sheets.specs.Kinds.{Numbered};
+ghost use Rattle.sheets.specs.Records.{StripsAt, FiniteDomainAt, RecordAnswer};
 ghost use Rattle.sheet_layout.specs.FiniteDomain.{finite_domain_kind};
 
-use crate::bytes::{byte_at, u16_at, u32_at};
-use crate::finite_domain::verify_finite_domain;
-use crate::frame::locate;
-use crate::strips::{masks_at, verify};
+use crate::bytes::u32_at;
+use crate::finite_domain::Variables;
+use crate::frame::{end_of_record, locate};
+use crate::kind::{Kind, SheetKind};
+use crate::reading::verify;
+use crate::strips::{Facts, masks_at};
 use planning::refusal::Refusal;
 
 // A part of the sheet, and where it begins.
@@ -24,6 +27,8 @@ pub struct Mask {
     pub place: usize,
     pub facts: u32,
 }
+
+// Kept: a rule of the project: a record is one of two kinds, each with the parts that its sheet has.
 
 // An action of a fact sheet.
 #[derive(Clone, Copy)]
@@ -56,7 +61,7 @@ fn strips_record(sheet: &[u8], at: usize) -> StripsRecord<'_>
     requires { framed strips_kind sheet.now at ≡ true }
     ensures { StripsAt sheet.now at result }
 {
-    let end = at + 2 + u16_at(sheet, at) as usize;
+    let end = end_of_record(sheet, at);
     let masks = masks_at(sheet, at + 6);
     StripsRecord {
         place: at,
@@ -84,7 +89,7 @@ fn finite_domain_record(sheet: &[u8], at: usize) -> FiniteDomainRecord<'_>
     requires { framed finite_domain_kind sheet.now at ≡ true }
     ensures { FiniteDomainAt sheet.now at result }
 {
-    let end = at + 2 + u16_at(sheet, at) as usize;
+    let end = end_of_record(sheet, at);
     let effects = at + 7 + 2 * sheet[at + 6] as usize;
     let name = effects + 1 + 2 * sheet[effects] as usize;
     FiniteDomainRecord {
@@ -105,38 +110,29 @@ fn finite_domain_record(sheet: &[u8], at: usize) -> FiniteDomainRecord<'_>
     }
 }
 
-// The record of an action of a fact sheet by its number.
-fn strips_numbered(sheet: &[u8], number: u16) -> Result<StripsRecord<'_>, Refusal>
-    ensures { StripsNumbered sheet.now number result }
+// The place of the record of an action by its number, in a sheet of kind K.
+fn numbered<K: SheetKind>(sheet: &[u8], number: u16) -> Result<usize, Refusal>
+    ensures { Numbered K.reading sheet.now number result }
 {
-    let head = verify(sheet)?;
-    if number >= head.actions {
+    let head = verify::<K>(sheet)?;
+    if number >= K::actions(&head) {
         return Err(Refusal::NoAction { action: number });
     }
-    let at = locate::<crate::strips::Facts>(sheet, head.actions, 17, number);
-    Ok(strips_record(sheet, at))
-}
-
-// The record of an action of a sheet of variables by its number.
-fn finite_domain_numbered(sheet: &[u8], number: u16) -> Result<FiniteDomainRecord<'_>, Refusal>
-    ensures { FiniteDomainNumbered sheet.now number result }
-{
-    let head = verify_finite_domain(sheet)?;
-    if number >= head.actions {
-        return Err(Refusal::NoAction { action: number });
-    }
-    let first = 9 + 3 * head.variables as usize;
-    let at = locate::<crate::finite_domain::Variables>(sheet, head.actions, first, number);
-    Ok(finite_domain_record(sheet, at))
+    Ok(locate::<K>(sheet, &head, number))
 }
 
 // The record of an action by its number, in a sheet of either kind.
 pub fn record(sheet: &[u8], number: u16) -> Result<SheetRecord<'_>, Refusal>
     ensures { RecordAnswer sheet.now number result }
 {
-    if byte_at(sheet, 5) == 2 {
-        Ok(SheetRecord::FiniteDomain(finite_domain_numbered(sheet, number)?))
-    } else {
-        Ok(SheetRecord::Strips(strips_numbered(sheet, number)?))
+    match Kind::of(sheet) {
+        Kind::Strips => {
+            let at = numbered::<Facts>(sheet, number)?;
+            Ok(SheetRecord::Strips(strips_record(sheet, at)))
+        }
+        Kind::FiniteDomain => {
+            let at = numbered::<Variables>(sheet, number)?;
+            Ok(SheetRecord::FiniteDomain(finite_domain_record(sheet, at)))
+        }
     }
 }

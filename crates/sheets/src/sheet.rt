@@ -1,10 +1,11 @@
 // Sheets of either kind.
 ghost use Rattle.sheets.specs.Records.{HeadAnswer};
 
-use crate::bytes::byte_at;
-use crate::finite_domain::check_finite_domain;
+use crate::finite_domain::Variables;
 use crate::head::{FiniteDomainHead, StripsHead};
-use crate::strips::check_strips;
+use crate::kind::Kind;
+use crate::reading::check;
+use crate::strips::Facts;
 use planning::refusal::Refusal;
 
 #[derive(Clone, Copy)]
@@ -17,9 +18,8 @@ pub enum SheetHead {
 pub fn read_head(sheet: &[u8]) -> Result<SheetHead, Refusal>
     ensures { HeadAnswer sheet.now result }
 {
-    if byte_at(sheet, 5) == 2 {
-        Ok(SheetHead::FiniteDomain(check_finite_domain(sheet)?))
-    } else {
-        Ok(SheetHead::Strips(check_strips(sheet)?))
+    match Kind::of(sheet) {
+        Kind::Strips => Ok(SheetHead::Strips(check::<Facts>(sheet)?)),
+        Kind::FiniteDomain => Ok(SheetHead::FiniteDomain(check::<Variables>(sheet)?)),
     }
 }

@@ -29,25 +29,6 @@ const fn action(preconditions: u32, adds: u32, deletes: u32) -> StripsAction {
 
 const PRICES: [u32; 7] = [1, 1, 1, 1, 3, 0, 1];
 
-fn unknown<K: CostAlgebra>() -> Record<K> {
-    Record {
-        cost: K::zero(),
-        tagged: false,
-        known: false,
-    }
-}
-
-fn word(status: Status) -> &'static str {
-    match status {
-        Status::Fresh => "fresh",
-        Status::Open => "open",
-        Status::Best => "best",
-        Status::Other => "other",
-        Status::Stuck => "stuck",
-        Status::Spent => "spent",
-    }
-}
-
 fn show(
     rt: &impl Print,
     state: u32,
@@ -55,10 +36,7 @@ fn show(
     answer: Result<(Status, u32), Refusal>,
 ) -> io::Result<()> {
     match answer {
-        Ok((status, turns)) => {
-            let status = word(status);
-            println!(rt; "{state} {action} {status} {turns}")
-        }
+        Ok((status, turns)) => println!(rt; "{state} {action} {status} {turns}"),
         Err(refusal) => {
             let number = refusal.number();
             println!(rt; "{state} {action} refused {number}")
@@ -68,20 +46,38 @@ fn show(
 
 fn mark_all<T: Task, L: OpenList>(
     rt: &impl Print,
-    name: &str,
+    list_name: &str,
+    cost_name: &str,
     task: &T,
     list: &mut L,
     table: &mut [Record<L::Cost>],
 ) -> io::Result<()> {
-    println!(rt; "{name}")?;
+    println!(rt; "{list_name}, {cost_name}")?;
     let blind: Blind<L::Cost> = Blind::new();
-    for state in 0..8 {
-        for action in 0..7 {
+    for state in 0..task.states() {
+        for action in 0..task.actions() {
             let answer = mark(task, &blind, list, table, state, action, 8);
             show(rt, state, action, answer)?;
         }
     }
     Ok(())
+}
+
+// With both open lists, under one cost.
+// Kept: no plainer: the lists differ in the type of what is lent, which a trait could name only with the loan's lifetime,
+// and a generic function cannot make the arrays, whose size has no bound there.
+fn mark_under<K: CostAlgebra>(
+    rt: &impl Print,
+    cost_name: &str,
+    task: &StripsTask<'_>,
+    table: &mut [Record<K>],
+    places: &mut [Place<K>],
+    slots: &mut [Slot<K>],
+) -> io::Result<()> {
+    let mut heap = Heap::new(places);
+    mark_all(rt, "heap", cost_name, task, &mut heap, table)?;
+    let mut flat = Flat::new(slots);
+    mark_all(rt, "flat", cost_name, task, &mut flat, table)
 }
 
 fn main(rt: HostRuntime) -> io::Result<()> {
@@ -98,30 +94,19 @@ fn main(rt: HostRuntime) -> io::Result<()> {
         return Ok(());
     };
     let task = StripsTask::new(head, &actions, &PRICES);
-    let mut table = [unknown::<Coins>(); STATES];
+    let mut table = [Record::<Coins>::unknown(); STATES];
     let mut places = [Place::<Coins>::blank(); STATES];
-    let mut heap = Heap::new(&mut places);
-    mark_all(&rt, "heap, coins", &task, &mut heap, &mut table)?;
     let mut slots = [Slot::<Coins>::blank(); STATES];
-    let mut flat = Flat::new(&mut slots);
-    mark_all(&rt, "flat, coins", &task, &mut flat, &mut table)?;
-    let mut table = [unknown::<CoinsThenActions>(); STATES];
+    mark_under(&rt, "coins", &task, &mut table, &mut places, &mut slots)?;
+    let mut table = [Record::<CoinsThenActions>::unknown(); STATES];
     let mut places = [Place::<CoinsThenActions>::blank(); STATES];
-    let mut heap = Heap::new(&mut places);
-    mark_all(
-        &rt,
-        "heap, coins then actions",
-        &task,
-        &mut heap,
-        &mut table,
-    )?;
     let mut slots = [Slot::<CoinsThenActions>::blank(); STATES];
-    let mut flat = Flat::new(&mut slots);
-    mark_all(
+    mark_under(
         &rt,
-        "flat, coins then actions",
+        "coins then actions",
         &task,
-        &mut flat,
         &mut table,
+        &mut places,
+        &mut slots,
     )
 }

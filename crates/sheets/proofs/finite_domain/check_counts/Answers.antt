@@ -1,28 +1,19 @@
-use Rattle.std.proofs.Common.{◌≡◌, ◌+◌, false, ◌&&◌, leb, get_or, drop, sym, ap, ◌∙◌, ⊎_elim, arith}
-use Rattle.std.proofs.lemmas.Bool.{and_left, and_right, and_from, lt-leb, le-leb}
-use Rattle.planning.specs.Checks.{first_failing}
-use Rattle.planning.proofs.Rows.{pass, fail}
-use Rattle.sheet_layout.specs.FiniteDomain.{counts_checks}
-use Rattle.sheet_layout.proofs.FiniteDomainHeads.{counts_on, counts_end}
+use Rattle.std.proofs.Common.{◌≡◌, ◌+◌, ◌&&◌, leb, not, ap, ◌∙◌, rules, tests}
+use Rattle.std.specs.List.{position}
+use Rattle.std.specs.Option.{option_map}
+use Rattle.std.proofs.lemmas.Iterator.{YieldsList-from_slice}
+use Rattle.std.proofs.lemmas.Iterator.Search.{position_from_yields_List}
+use Rattle.planning.specs.declared.refusal.Refusal.TheVariants.{Count}
+use Rattle.sheets.proofs.FirstFailures.{counts_position}
 use Rattle.sheets.proofs.finite_domain.check_counts.Goals as goal
+use Rattle.sheets.proofs.finite_domain.check_counts.Goals.{After-position}
 
-pub returns-then-count-lt2 : goal.returns-then-count-lt2
-returns-then-count-lt2 c =
-    let ns = c.args.counts.now in
-    let i = c.loop-i.i in
-    let n = get_or ns i 0 in
-    let bad : (leb 2 n && leb n 16) ≡ false = ⊎_elim (λ h. and_left _ _ (lt-leb 2 n h)) (λ h. and_right (leb 2 n) _ (lt-leb n 16 h.1)) c.then-count-lt2.either in
-    sym c.loop-i.invariant ∙ counts_on ns i (9 + i) c.loop-i-test.true ∙ fail (leb 2 n && leb n 16) _ _ bad
+found : (c : After-position) → c.position.result ≡ position (λ n. not (leb 2 n && leb n 16)) c.args.counts.now
+found c = position_from_yields_List (λ n. not (leb 2 n && leb n 16)) _ _ c.position.result c.position.ensures.ran (YieldsList-from_slice _ c.iter.ensures.rest) (λ x b q k. search (rules, tests))
 
-pub loop-i-preserved : goal.loop-i-preserved
-loop-i-preserved c =
-    let ns = c.args.counts.now in
-    let i = c.loop-i.i in
-    let n = get_or ns i 0 in
-    ap (λ p. first_failing (counts_checks (drop (i + 1) ns) p)) (omega arith)
-    ∙ sym (pass (leb 2 n && leb n 16) _ _ (and_from _ _ (le-leb 2 n c.if-count-lt2.false) (le-leb n 16 c.if-count-gt16.false)))
-    ∙ sym (counts_on ns i (9 + i) c.loop-i-test.true)
-    ∙ c.loop-i.invariant
+pub returns-in-Some : goal.returns-in-Some
+returns-in-Some c =
+    counts_position c.args.counts.now 9 _ (found (goal.at.returns-in-Some c).After-position) ∙ ap (option_map (λ i. Count (9 + i))) c.in-Some.is
 
-pub returns : goal.returns
-returns c = (sym c.loop-i.invariant ∙ counts_end c.args.counts.now c.loop-i.i (9 + c.loop-i.i) c.loop-i-test.false, tt)
+pub returns-in-None : goal.returns-in-None
+returns-in-None c = (counts_position c.args.counts.now 9 _ (found (goal.at.returns-in-None c).After-position) ∙ ap (option_map (λ i. Count (9 + i))) c.in-None.is, tt)

@@ -1,36 +1,29 @@
-use Rattle.std.proofs.Common.{ℕ, ◌+◌, Bool, ◌&&◌, ◌||◌, eqb, ltb, get_or, drop, sym, ap, ◌∙◌, arith}
-use Rattle.planning.specs.Checks.{first_failing}
-use Rattle.planning.proofs.Rows.{pass, fail}
-use Rattle.sheet_layout.specs.FiniteDomain.{values_checks}
-use Rattle.sheet_layout.proofs.FiniteDomainHeads.{values_on, values_end}
+use Rattle.std.proofs.Common.{◌≡◌, ℕ, ◌+◌, Bool, ◌&&◌, ◌||◌, eqb, ltb, not, ap, ◌∙◌, rules, tests}
+use Rattle.std.specs.List.{position, zip}
+use Rattle.std.specs.Option.{option_map}
+use Rattle.std.proofs.lemmas.Iterator.{YieldsList-from_slice, YieldsList-from_zip}
+use Rattle.std.proofs.lemmas.Iterator.Search.{position_from_yields_List}
+use Rattle.planning.specs.declared.refusal.Refusal.TheVariants.{StartOrGoal}
+use Rattle.sheets.proofs.FirstFailures.{values_position}
 use Rattle.sheets.proofs.finite_domain.check_values.Goals as goal
+use Rattle.sheets.proofs.finite_domain.check_values.Goals.{After-position}
 
 -- the test of a value
 passing : Bool → ℕ → ℕ → Bool
 passing any v n = ltb v n || (any && eqb v 255)
 
-pub returns-then-not-is_value : goal.returns-then-not-is_value
+found : (c : After-position) → c.position.result ≡ position (λ (x : ℕ × ℕ). not (passing c.args.any x.1 x.0)) (zip c.args.counts.now c.args.values.now)
 unfolding passing
-returns-then-not-is_value c =
-    let ns = c.args.counts.now in
-    let vs = c.args.values.now in
-    let i = c.loop-i.i in
-    let f = passing c.args.any in
-    sym c.loop-i.invariant ∙ values_on f ns vs c.requires.same i (c.args.first + i) c.loop-i-test.true ∙ fail (f (get_or vs i 0) (get_or ns i 0)) _ _ (sym c.if-not-is_value.ensures)
+found c =
+    position_from_yields_List (λ (x : ℕ × ℕ). not (passing c.args.any x.1 x.0)) c.position.new.self _ c.position.result c.position.ensures.ran
+    (YieldsList-from_zip (YieldsList-from_slice c.args.counts.now cc) (YieldsList-from_slice c.args.values.now cc)) (λ x b q k. search (rules, tests))
 
-pub loop-i-preserved : goal.loop-i-preserved
+pub returns-in-Some : goal.returns-in-Some
 unfolding passing
-loop-i-preserved c =
-    let ns = c.args.counts.now in
-    let vs = c.args.values.now in
-    let i = c.loop-i.i in
-    let f = passing c.args.any in
-    ap (λ p. first_failing (values_checks f (drop (i + 1) ns) (drop (i + 1) vs) p)) (omega arith)
-    ∙ sym (pass (f (get_or vs i 0) (get_or ns i 0)) _ _ (sym c.if-not-is_value.ensures))
-    ∙ sym (values_on f ns vs c.requires.same i (c.args.first + i) c.loop-i-test.true)
-    ∙ c.loop-i.invariant
+returns-in-Some c =
+    values_position (passing c.args.any) c.args.counts.now c.args.values.now c.args.first _ (found (goal.at.returns-in-Some c).After-position) ∙ ap (option_map (λ i. StartOrGoal (c.args.first + i))) c.in-Some.is
 
-pub returns : goal.returns
+pub returns-in-None : goal.returns-in-None
 unfolding passing
-returns c =
-    (sym c.loop-i.invariant ∙ values_end (passing c.args.any) c.args.counts.now c.args.values.now c.requires.same c.loop-i.i (c.args.first + c.loop-i.i) c.loop-i-test.false, tt)
+returns-in-None c =
+    (values_position (passing c.args.any) c.args.counts.now c.args.values.now c.args.first _ (found (goal.at.returns-in-None c).After-position) ∙ ap (option_map (λ i. StartOrGoal (c.args.first + i))) c.in-None.is, tt)

@@ -3,6 +3,7 @@ use Rattle.sheet_layout.specs.Frame.{record_place}
 use Rattle.sheet_layout.proofs.Walking.{Walk}
 use Rattle.sheets.proofs.frame.locate.Given as goal
 
-abbrev pub invariant-loop-i : goal.invariant-loop-i
-invariant-loop-i g l =
-    (l.at ≡ record_place l.sheet l.i l.first) × Walk {C = Unit {0}} g.K.SheetKind.kind (λ bs p. tt) l.sheet l.first l.count l.i l.at
+abbrev pub invariant-loop : goal.invariant-loop
+invariant-loop g l =
+    let r = g.K.SheetKind.reading in
+    (l.at ≡ record_place l.sheet l.counter (r.begins l.head)) × Walk {C = Unit {0}} r.kind (λ bs p. tt) l.sheet (r.begins l.head) (r.count l.head) l.counter l.at
