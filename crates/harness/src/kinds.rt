@@ -4,8 +4,9 @@ use crate::rows::Row;
 use heuristics::check::check_table;
 use planning::task::Task;
 use sheets::finite_domain::Variables;
-use sheets::kind::{Kind, SheetKind};
-use sheets::reading::{check, read};
+use sheets::kind::SheetKind;
+use sheets::reading::read;
+use sheets::sheet::{SheetHead, read_head};
 use sheets::strips::Facts;
 use sheets::task::TaskOf;
 use std::alloc::AllocError;
@@ -25,15 +26,12 @@ impl Request<'_> {
         }
     }
 
-    fn with_kind<K: SheetKind>(&mut self, sheet: &[u8]) -> Result<Row, AllocError> {
-        if let Err(refusal) = check::<K>(sheet) {
-            return Ok(refusal.into());
-        }
+    fn with_kind<K: SheetKind>(&mut self, sheet: &[u8], head: K::Head) -> Result<Row, AllocError> {
         let heap = self.heap;
         let mut actions = vec![in heap; K::blank(); MOST_ACTIONS]?;
         let mut prices = vec![in heap; 0u32; MOST_ACTIONS]?;
         match read::<K>(sheet, &mut actions, &mut prices) {
-            Ok(head) => {
+            Ok(_) => {
                 let task = TaskOf::<K>::new(head, &actions, &prices);
                 self.with_cost(&task)?;
                 Ok(self.checked(&task))
@@ -43,10 +41,12 @@ impl Request<'_> {
     }
 
     pub(crate) fn with_sheet(&mut self, sheet: &[u8]) -> Result<Row, AllocError> {
-        // Kept: no plainer: a type parameter is chosen by a match, here with one call for each kind.
-        match Kind::of(sheet) {
-            Kind::Strips => self.with_kind::<Facts>(sheet),
-            Kind::FiniteDomain => self.with_kind::<Variables>(sheet),
+        // Kept: no plainer: a type parameter is chosen by a match, here with one call for each kind. The head that each
+        // call takes is of that kind's type, so that no sheet is read as one of the other kind.
+        match read_head(sheet) {
+            Ok(SheetHead::Strips(head)) => self.with_kind::<Facts>(sheet, head),
+            Ok(SheetHead::FiniteDomain(head)) => self.with_kind::<Variables>(sheet, head),
+            Err(refusal) => Ok(refusal.into()),
         }
     }
 }

@@ -7,9 +7,10 @@ use planning::refusal::Refusal;
 use planning::task::Task;
 use sheets::finite_domain::{ANY, Variables};
 use sheets::head::{FiniteDomainHead, StripsHead};
-use sheets::kind::{Kind, SheetKind};
-use sheets::reading::{check, read};
+use sheets::kind::SheetKind;
+use sheets::reading::read;
 use sheets::record::{SheetRecord, record};
+use sheets::sheet::{SheetHead, read_head};
 use sheets::strips::Facts;
 use sheets::task::TaskOf;
 use std::alloc::{AllocError, Global};
@@ -205,15 +206,12 @@ impl Inspected for Variables {
 }
 
 // A sheet of kind K: its head, and its actions.
-fn show_kind<K: Inspected>(rt: &HostRuntime, sheet: &[u8]) -> anyhow::Result<()> {
-    if let Err(refusal) = check::<K>(sheet) {
-        return show_refusal(rt, sheet, refusal);
-    }
+fn show_kind<K: Inspected>(rt: &HostRuntime, sheet: &[u8], head: K::Head) -> anyhow::Result<()> {
     let heap = rt.alloc();
     let mut actions = vec![in heap; K::blank(); MOST_ACTIONS]?;
     let mut prices = vec![in heap; 0u32; MOST_ACTIONS]?;
     match read::<K>(sheet, &mut actions, &mut prices) {
-        Ok(head) => {
+        Ok(_) => {
             K::show_head(rt, &head)?;
             let task = TaskOf::<K>::new(head, &actions, &prices);
             show_actions(rt, sheet, &task, K::start(&head))
@@ -223,10 +221,12 @@ fn show_kind<K: Inspected>(rt: &HostRuntime, sheet: &[u8]) -> anyhow::Result<()>
 }
 
 fn show_sheet(rt: &HostRuntime, sheet: &[u8]) -> anyhow::Result<()> {
-    // Kept: no plainer: a type parameter is chosen by a match, here with one call for each kind.
-    match Kind::of(sheet) {
-        Kind::Strips => show_kind::<Facts>(rt, sheet),
-        Kind::FiniteDomain => show_kind::<Variables>(rt, sheet),
+    // Kept: no plainer: a type parameter is chosen by a match, here with one call for each kind. The head that each call
+    // takes is of that kind's type, so that no sheet is read as one of the other kind.
+    match read_head(sheet) {
+        Ok(SheetHead::Strips(head)) => show_kind::<Facts>(rt, sheet, head),
+        Ok(SheetHead::FiniteDomain(head)) => show_kind::<Variables>(rt, sheet, head),
+        Err(refusal) => show_refusal(rt, sheet, refusal),
     }
 }
 

@@ -12,8 +12,16 @@ pub fn read_at_most<R: Read>(source: &mut R, heap: Global, most: usize) -> io::R
     ensures { IfOk result (λ v. vec_len v ≤ most) }
 {
     let mut bytes = Vec::new(heap);
-    source.take(most as u64).read_to_end(&mut bytes)?;
-    // `take` gives no more; the contract of `read_to_end` does not say so of every source.
-    bytes.truncate(most);
+    let mut chunk = [0u8; 4096];
+    let mut rest = source.take(most as u64);
+    // Kept: no plainer: each turn reads a byte at least, so that the loop ends whatever the source answers. `read_to_end`
+    // asks for memory before it reads, and tries again for as long as the source says that it was interrupted.
+    for _ in 0..most {
+        let got = rest.read(&mut chunk)?;
+        if got == 0 {
+            break;
+        }
+        bytes.extend_from_slice(&chunk[..got])?;
+    }
     Ok(bytes)
 }

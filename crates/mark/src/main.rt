@@ -12,8 +12,9 @@ use planning::task::Task;
 use questions::input::{Asked, split};
 use questions::line::{write_line, write_refused};
 use sheets::finite_domain::Variables;
-use sheets::kind::{Kind, SheetKind};
-use sheets::reading::{check, read};
+use sheets::kind::SheetKind;
+use sheets::reading::read;
+use sheets::sheet::{SheetHead, read_head};
 use sheets::strips::Facts;
 use sheets::task::TaskOf;
 
@@ -59,25 +60,28 @@ fn show_answers<T: Task>(rt: &HostRuntime, task: &T, asked: Asked<'_>) -> anyhow
     Ok(())
 }
 
-// A sheet of kind K, and the questions about it.
-fn show_kind<K: SheetKind>(rt: &HostRuntime, asked: Asked<'_>) -> anyhow::Result<()> {
-    if let Err(refusal) = check::<K>(asked.sheet) {
-        return show_refused(rt, refusal);
-    }
+// A sheet of kind K with this head, and the questions about it.
+fn show_kind<K: SheetKind>(
+    rt: &HostRuntime,
+    asked: Asked<'_>,
+    head: K::Head,
+) -> anyhow::Result<()> {
     let heap = rt.alloc();
     let mut actions = vec![in heap; K::blank(); MOST_ACTIONS]?;
     let mut prices = vec![in heap; 0u32; MOST_ACTIONS]?;
     match read::<K>(asked.sheet, &mut actions, &mut prices) {
-        Ok(head) => show_answers(rt, &TaskOf::<K>::new(head, &actions, &prices), asked),
+        Ok(_) => show_answers(rt, &TaskOf::<K>::new(head, &actions, &prices), asked),
         Err(refusal) => show_refused(rt, refusal),
     }
 }
 
 fn show_sheet(rt: &HostRuntime, asked: Asked<'_>) -> anyhow::Result<()> {
-    // Kept: no plainer: a type parameter is chosen by a match, here with one call for each kind.
-    match Kind::of(asked.sheet) {
-        Kind::Strips => show_kind::<Facts>(rt, asked),
-        Kind::FiniteDomain => show_kind::<Variables>(rt, asked),
+    // Kept: no plainer: a type parameter is chosen by a match, here with one call for each kind. The head that each call
+    // takes is of that kind's type, so that no sheet is read as one of the other kind.
+    match read_head(asked.sheet) {
+        Ok(SheetHead::Strips(head)) => show_kind::<Facts>(rt, asked, head),
+        Ok(SheetHead::FiniteDomain(head)) => show_kind::<Variables>(rt, asked, head),
+        Err(refusal) => show_refused(rt, refusal),
     }
 }
 

@@ -2,7 +2,6 @@
 use Rattle.std.specs.Prelude.{◌≡◌, ℕ, zero, suc, ◌<◌, false, cond, List, map, length, is_some, Some, None, Option, nat_lt, slice_index_or}
 use Rattle.planning.specs.Costs.{Algebra}
 use Rattle.planning.specs.Labels.{Label, earlier}
-use Rattle.planning.specs.Labelled.{labelled}
 use Rattle.planning.specs.Lists.{Waiting, label_of}
 use Rattle.planning.specs.declared.open_list.Entry.{Entry}
 use Rattle.open_lists.specs.declared.flat.Slot.{Slot}
@@ -10,7 +9,7 @@ use Rattle.std.specs.Option.{option_map}
 use Rattle.heap_order.specs.Order.{room_of, ahead}
 
 abbrev pub label_in : {K : Type 0} → Slot K → Option (Label K)
-label_in s = option_map labelled s.waiter
+label_in s = option_map (λ tagged. record { cost = s.front; tagged = tagged }) s.tagged
 
 -- the entry in a slot, absent past the end
 abbrev pub slot_label : {K : Type 0} → List (Slot K) → Waiting K

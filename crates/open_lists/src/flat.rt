@@ -7,21 +7,24 @@ ghost use Rattle.heap_order.specs.Order.{room_of};
 
 use crate::order::{precedes, served};
 use planning::cost::CostAlgebra;
-use planning::label::Label;
 use planning::open_list::{Entry, OpenList};
 
-// The label of one state's entry, if it waits. Its cost is the entry's front.
+// The front of one state's entry, and its tag if it waits. An Option of both would take half as much memory again.
 #[derive(Clone, Copy)]
 pub struct Slot<K> {
-    waiter: Option<Label<K>>,
+    front: K,
+    tagged: Option<bool>,
 }
 
 impl<K: CostAlgebra> Slot<K> {
     // A slot in which nothing waits.
     pub fn blank() -> Slot<K>
-        ensures { result ≡ record { waiter = None } }
+        ensures { result ≡ record { front = K.CostAlgebra.algebra.zero; tagged = None } }
     {
-        Slot { waiter: None }
+        Slot {
+            front: K::zero(),
+            tagged: None,
+        }
     }
 }
 
@@ -33,7 +36,9 @@ pub struct Flat<'a, K> {
 fn wipe<K: CostAlgebra>(slots: &mut [Slot<K>])
     ensures { (p : ℕ) → slot_label slots.new p ≡ None }
 {
-    slots.fill(Slot::blank());
+    for slot in slots.iter_mut() {
+        slot.tagged = None;
+    }
 }
 
 // The earlier of the best entry so far and one more; the best so far where neither precedes the other.
@@ -41,8 +46,8 @@ fn better<K: CostAlgebra>(best: Option<Entry<K>>, entry: Entry<K>) -> Entry<K>
     ensures { result ≡ better_entry K.CostAlgebra.algebra best entry }
 {
     match best {
-        Some(held) if !precedes(entry, held) => held,
-        _ => entry,
+        None => entry,
+        Some(held) => if precedes(entry, held) { entry } else { held },
     }
 }
 
@@ -52,11 +57,11 @@ fn scan<K: CostAlgebra>(slots: &[Slot<K>], states: u32) -> Option<Entry<K>>
 {
     let mut best = None;
     for (state, slot) in slots[..states as usize].iter().enumerate() {
-        if let Some(waiter) = slot.waiter {
+        if let Some(tagged) = slot.tagged {
             let entry = Entry {
                 state: state as u32,
-                front: waiter.cost,
-                tagged: waiter.tagged,
+                front: slot.front,
+                tagged,
             };
             best = Some(better(best, entry));
         }
@@ -70,7 +75,7 @@ fn take_least<K: CostAlgebra>(slots: &mut [Slot<K>], states: u32) -> Option<Entr
     ensures taken { Taken (slot_label slots.old) (slot_label slots.new) result }
 {
     let entry = scan(slots, states)?;
-    slots[entry.state as usize].waiter = None;
+    slots[entry.state as usize].tagged = None;
     Some(entry)
 }
 
@@ -111,10 +116,10 @@ impl<'a, K: CostAlgebra> OpenList for Flat<'a, K> {
         if state >= self.capacity() {
             return false;
         }
-        self.slots[state as usize].waiter = Some(Label {
-            cost: front,
-            tagged,
-        });
+        self.slots[state as usize] = Slot {
+            front,
+            tagged: Some(tagged),
+        };
         true
     }
 

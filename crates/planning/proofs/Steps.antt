@@ -1,5 +1,5 @@
 -- Ways to show the relations of the search from what code has done.
-use Rattle.std.proofs.Common.{◌≡◌, ℕ, zero, suc, ◌+◌, ◌<◌, true, false, List, [], ◌∷◌, length, set, Some, None, Option, refl, ap, subst, add-one, arith}
+use Rattle.std.proofs.Common.{◌≡◌, ℕ, zero, suc, ◌+◌, ◌<◌, ◌≤◌, true, false, List, [], ◌∷◌, length, set, Some, None, Option, refl, ap, subst, add-one, arith}
 use Rattle.std.specs.List.{slice_get}
 use Rattle.planning.specs.declared.cost.Record.{Record}
 use Rattle.planning.specs.declared.open_list.Entry.{Entry}
@@ -40,9 +40,15 @@ module _ {K : Type 0} {t : Model} {a : Algebra K} {sum : K → K → K} {h : Est
       same : (at : Transition) → t.transition p n ≡ Some at → to ≡ at
       same at g = cc (e, g)
 
+  pub swept_to : {k : ℕ} → n ≡ k → Swept t a sum h p y m n d → Swept t a sum h p y m k d
+  swept_to e w = subst (λ n. Swept t a sum h p y m n d) e w
+
 module _ {K : Type 0} {t : Model} {a : Algebra K} {sum : K → K → K} {h : Estimates K} {c : Configuration K} {k : ℕ} {d : Configuration K} where
   pub runs_more : {e : Configuration K} → Runs t a sum h c k d → d.numbers.status ≡ Open → Turn t a sum h d e → Runs t a sum h c (k + 1) e
   runs_more runs f o = rw add-one (turn runs f o)
+
+  pub runs_to : {j : ℕ} → k ≡ j → Runs t a sum h c k d → Runs t a sum h c j d
+  runs_to e runs = subst (λ n. Runs t a sum h c n d) e runs
 
 module _ {K : Type 0} (a : Algebra K) where
   cleared_suc : (i : ℕ) (xs : List (Record K)) → i < length xs → set (cleared a i xs) i (blank a) ≡ cleared a (suc i) xs
@@ -53,6 +59,11 @@ module _ {K : Type 0} (a : Algebra K) where
   -- one more record made blank
   pub cleared_more : (i : ℕ) (xs : List (Record K)) → i < length xs → set (cleared a i xs) i (blank a) ≡ cleared a (i + 1) xs
   cleared_more i xs b = rw add-one (cleared_suc i xs b)
+
+  pub length-cleared : (i : ℕ) (xs : List (Record K)) → i ≤ length xs → length (cleared a i xs) ≡ length xs
+  length-cleared zero xs b = refl
+  length-cleared (suc i) [] b = absurd (omega arith)
+  length-cleared (suc i) (x ∷ xs) b = ap suc (length-cleared i xs (omega arith))
 
 -- what is taken is what was seen to be least
 pub taken_least : {K : Type 0} (a : Algebra K) (w w' : Waiting K) (next : Option ℕ) (e : Entry K) (r : Option (Entry K)) → Least a w next (Some e) → Least a w next r → Taken w w' r → Changed w w' e.state None

@@ -182,6 +182,9 @@ capped s n (suc p) =
     ap (λ k. min (k * suc p) 65537) e ∙ omega (arith, f, mul_assoc s n (suc p)))
     (cases_lt (s * n) 65537)
 
+pub counted_valid : (ns : List ℕ) → first_failing (counts_checks ns 9) ≡ None → AllByRecursion ValidCount ns
+counted_valid ns h = counts_passed ns 9 h
+
 -- values pass exactly when each is below its variable's number of values
 pub plain_passed : (ns vs : List ℕ) (p : ℕ) → length vs ≡ length ns → first_failing (values_checks (λ v n. ltb v n || (false && eqb v 255)) ns vs p) ≡ None → AllZip (λ v n. v < n) vs ns
 plain_passed ns vs p long h = values_passed ltb (λ v n. v < n) ltb-true ns vs p long (sym (ap first_failing (values_plain ns vs p)) ∙ h)

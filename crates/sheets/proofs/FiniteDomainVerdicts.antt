@@ -85,7 +85,7 @@ module _ (bs : List ℕ) (opened : first_failing (opening_checks finite_domain_k
       (cases_Bool (leb 1 d && leb d 16))
 
   module _ (d m : ℕ) (size : d ≡ byte_at bs 6) (count : m ≡ num16 bs 7) (copied : Copied bs d ns vs gs) where
-    head_same : first_failing (finite_domain_head_checks bs) ≡ first_failing (finite_domain_head d m (take d ns) (take d vs) (take d gs))
+    pub head_same : first_failing (finite_domain_head_checks bs) ≡ first_failing (finite_domain_head d m (take d ns) (take d vs) (take d gs))
     head_same =
         here_same (subst (λ n. Copied bs n ns vs gs) size copied)
         ∙ sym (λ i. first_failing (finite_domain_head (size i) (count i) (take (size i) ns) (take (size i) vs) (take (size i) gs)))

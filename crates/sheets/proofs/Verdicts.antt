@@ -5,15 +5,19 @@ use Rattle.planning.specs.Checks.{first_failing}
 use Rattle.sheet_layout.specs.Frame.{framed, record_end, record_place, actions_from, action_at}
 use Rattle.sheet_layout.specs.Numbers.{Bytes, byte_at, num16, num32}
 use Rattle.sheet_layout.specs.Strips.{StripsContent, ValidMasks, masks_bytes, strips_kind, strips_checks, read_masks}
-use Rattle.sheet_layout.proofs.Framing.{framed_from, places_sound}
+use Rattle.sheet_layout.proofs.Framing.{framed_from, places_sound, actions_count}
 use Rattle.sheet_layout.proofs.StripsSheets.{strips_read, masks_decode, to_records, strips_sound}
 use Rattle.sheet_layout.proofs.Walking.{Walk, walk_start, walk_to, walk_passed, walk_item}
 use Rattle.sheets.specs.Kinds.{Numbered}
 use Rattle.sheets.specs.Laws.{strips_passes, strips_reading_laws}
-use Rattle.sheets.specs.Reading.{Sheet, strips_reading}
+use Rattle.sheets.specs.Reading.{Sheet, HeadAt, HeadOf, strips_reading}
 use Rattle.sheets.specs.Records.{StripsAt, StripsRecordOf, StripsNumbered}
+use Rattle.sheets.specs.declared.head.StripsHead.{StripsHead}
 use Rattle.sheets.specs.declared.record.StripsRecord.{StripsRecord}
 use Rattle.sheets.proofs.Readings as facts
+
+pub head_of : (bs : List ℕ) (h : StripsHead) → HeadAt bs h → HeadOf h (strips_read bs)
+head_of bs h at = record { facts = at.facts; actions = at.actions ∙ sym (actions_count strips_kind read_masks bs (num16 bs 7) 17); start = at.start; goal = at.goal }
 
 pub no_content : (bs : List ℕ) (e : Refusal) → Bytes bs → first_failing (strips_checks bs) ≡ Some e → (c : StripsContent) → Sheet bs c → ⊥
 no_content bs e small = facts.no_content strips_reading strips_reading_laws bs small e

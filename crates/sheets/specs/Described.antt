@@ -18,13 +18,13 @@ use Rattle.sheets.specs.declared.head.StripsHead.{StripsHead}
 use Rattle.sheets.specs.declared.strips.StripsAction.{StripsAction}
 
 -- what stands before an end is the same with more behind it
-nth_front : {X : Type 0} (xs ys : List X) (i : ℕ) → i < length xs → slice_get (xs ++ ys) i ≡ slice_get xs i
+pub nth_front : {X : Type 0} (xs ys : List X) (i : ℕ) → i < length xs → slice_get (xs ++ ys) i ≡ slice_get xs i
 nth_front [] ys i h = absurd (omega arith)
 nth_front (x ∷ xs) ys zero h = refl
 nth_front (x ∷ xs) ys (suc i) h = nth_front xs ys i (omega arith)
 
 -- two values behind a test are the same if they are wherever it holds
-guarded_same : {X : Type 0} (b : Bool) (x y z : X) → (b ≡ true → x ≡ y) → cond b x z ≡ cond b y z
+pub guarded_same : {X : Type 0} (b : Bool) (x y z : X) → (b ≡ true → x ≡ y) → cond b x z ≡ cond b y z
 guarded_same true x y z h = h refl
 guarded_same false x y z h = refl
 
@@ -37,7 +37,7 @@ steps_same f xs actions prices does low a =
     let few = ltb-true a (length xs) (and_parts low (ltb a (length xs)) inside).1 in
     λ i. listed does (nth_front (map f xs) actions a (omega (arith, length-map xs f)) i) (nth_front (map priced xs) prices a (omega (arith, length-map xs priced)) i))
 
-strips_described : (h : StripsHead) (actions : List StripsAction) (prices : List ℕ) (c : StripsContent) → HeadOf h c → Begins tabled c.actions actions → Begins priced c.actions prices → strips_over h.facts h.actions h.goal actions prices ≡ strips_task_of c
+pub strips_described : (h : StripsHead) (actions : List StripsAction) (prices : List ℕ) (c : StripsContent) → HeadOf h c → Begins tabled c.actions actions → Begins priced c.actions prices → strips_over h.facts h.actions h.goal actions prices ≡ strips_task_of c
 strips_described h actions prices c head ha hp =
     (λ i. strips_over (head.facts i) (head.actions i) (head.goal i) (ha.1 i) (hp.1 i))
     ∙ (λ i. record {
@@ -72,7 +72,7 @@ module _ (h : FiniteDomainHead) (actions : List FiniteDomainAction) (prices : Li
   goal_same : (s : ℕ) → (ltb s (product c.counts) && holds (padded c.goal) (decode c.counts s)) ≡ (finite_domain_task_of c).goal s
   goal_same s = ap (λ b. ltb s (product c.counts) && b) (holds_front c.goal _ (decode c.counts s) (as_long (λ v n. (v < n) ⊎ (v ≡ 255)) c.goal c.counts valid.goal ∙ sym (decode-length c.counts s)))
 
-  finite_domain_described : finite_domain_over (counts_of h) h.actions h.goal actions prices ≡ finite_domain_task_of c
+  pub finite_domain_described : finite_domain_over (counts_of h) h.actions h.goal actions prices ≡ finite_domain_task_of c
   finite_domain_described =
       (λ i. finite_domain_over (counts_same i) (head.actions i) (head.goal i) (ha.1 i) (hp.1 i))
       ∙ (λ i. record {

@@ -53,7 +53,7 @@ finite_domain_passes bs small e = let h = finite_domain_sound bs small e in reco
 finite_domain_all : (bs : List ℕ) → Bytes bs → (c : FiniteDomainContent) → FiniteDomainSheet bs c → (first_failing (finite_domain_checks bs) ≡ None) × (finite_domain_read bs ≡ c)
 finite_domain_all bs small c h = finite_domain_complete bs c small h.valid h.laid
 
-head_of : (bs : List ℕ) (h : FiniteDomainHead) → first_failing (finite_domain_checks bs) ≡ None → FiniteDomainHeadAt bs h → FiniteDomainHeadOf h (finite_domain_read bs)
+pub head_of : (bs : List ℕ) (h : FiniteDomainHead) → first_failing (finite_domain_checks bs) ≡ None → FiniteDomainHeadAt bs h → FiniteDomainHeadOf h (finite_domain_read bs)
 head_of bs h ok at =
     let d = byte_at bs 6 in
     let long = (sheet_passed bs ok).long in
